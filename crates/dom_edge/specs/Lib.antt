@@ -1,0 +1,4 @@
+pub mod Causes
+pub mod File
+pub mod Stored
+pub mod Text
