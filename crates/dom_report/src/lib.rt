@@ -1,0 +1,6 @@
+//! The text of an answer.
+#![tactic(auto)]
+
+mod text;
+
+pub use text::answer_text;
