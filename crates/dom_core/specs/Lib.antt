@@ -1,0 +1,4 @@
+pub mod Assignment
+pub mod Domain
+pub mod Rises
+pub mod Small
