@@ -1,4 +1,5 @@
 pub mod Causes
 pub mod File
+pub mod Planned
 pub mod Stored
 pub mod Text

@@ -1,5 +1,3 @@
-ghost use Rattle.std.specs.Prelude.{◌≡◌, ℕ, List, Some, None, length, OnOk, OnErr};
-
 use crate::call_plan::CallPlan;
 use crate::copying::copy_part;
 use crate::failed::Failed;
@@ -15,8 +13,9 @@ pub struct MemFolder {
 }
 
 impl MemFolder {
-    ghost use Rattle.std.specs.Prelude.{◌≡◌, ◌≢◌, ℕ, List, Some, None, OnOk, OnErr};
+    ghost use Rattle.std.specs.Prelude.{◌≡◌, ◌≢◌, ◌∷◌, ◌++◌, [], ℕ, List, Some, None, OnOk, OnErr};
     ghost use Rattle.dom_edge.specs.File.{PutsFile};
+    ghost use Rattle.dom_edge.specs.Planned.{failing_reads};
 
     /// A folder that has no file.
     pub fn new(alloc: Global) -> Self
@@ -43,6 +42,7 @@ impl MemFolder {
 
     /// Makes the read of this number fail. The first read of the folder has the number 1.
     pub fn fail_read(&mut self, call: u64) -> Result<(), AllocError>
+        ensures planned { OnOk result (failing_reads self.new ≡ failing_reads self.old ++ call ∷ []) }
         ensures files { ⟦<MemFolder as Folder>⟧.bytes self.new
             ≡ ⟦<MemFolder as Folder>⟧.bytes self.old }
         ensures faults { ⟦<MemFolder as Folder>⟧.read_faults self.new

@@ -12,7 +12,8 @@ pub struct MemSink {
 }
 
 impl MemSink {
-    ghost use Rattle.std.specs.Prelude.{◌≡◌, [], Some};
+    ghost use Rattle.std.specs.Prelude.{◌≡◌, ◌∷◌, ◌++◌, [], Some, OnOk};
+    ghost use Rattle.dom_edge.specs.Planned.{failing_writes};
 
     /// A sink to which nothing was written.
     pub fn new(alloc: Global) -> Self
@@ -34,6 +35,7 @@ impl MemSink {
 
     /// Makes the write of this number fail. The first write has the number 1.
     pub fn fail_write(&mut self, call: u64) -> Result<(), AllocError>
+        ensures planned { OnOk result (failing_writes self.new ≡ failing_writes self.old ++ call ∷ []) }
         ensures bytes { ⟦<MemSink as Sink>⟧.bytes self.new ≡ ⟦<MemSink as Sink>⟧.bytes self.old }
         ensures spare { ⟦<MemSink as Sink>⟧.spare self.new ≡ ⟦<MemSink as Sink>⟧.spare self.old }
         ensures faults { ⟦<MemSink as Sink>⟧.faults self.new
