@@ -1,0 +1,11 @@
+pub mod Values
+pub mod ByteClasses
+pub mod Runs
+pub mod Quotes
+pub mod FloatTails
+pub mod Numerals
+pub mod Heads
+pub mod Longest
+pub mod Fronts
+pub mod OneAnswer
+pub mod TightPieces

@@ -1,0 +1,5 @@
+pub mod Classes
+pub mod Tokens
+pub mod Cutting
+pub mod Scan
+pub mod Heading

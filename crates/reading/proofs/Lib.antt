@@ -1,0 +1,5 @@
+pub mod Laws
+pub mod Joins
+pub mod Loops
+pub mod Lists
+pub mod Faults

@@ -1,0 +1,4 @@
+pub mod Language
+pub mod Readers
+pub mod Places
+pub mod Gives
