@@ -1,11 +1,10 @@
-ghost use Rattle.std.specs.Prelude.{◌≡◌, ◌≤◌, OnOk, IsErrOf};
-ghost use Rattle.dom_edge.specs.Causes.{CountRose};
-ghost use Rattle.dom_edge.specs.Text.{Gains, GainsPrefix};
+ghost use Rattle.std.specs.Prelude.{◌≡◌, ◌≤◌};
 ghost use Rattle.dom_top.specs.Answers.{code_of};
 ghost use Rattle.dom_top.specs.Messages.{message_of, Tells};
 
 use crate::answer::{Answer, ModelFault};
-use dom_edge::{Sink, write_whole};
+use crate::writing::write_text;
+use dom_edge::Sink;
 
 /// The line that tells an answer, none where all went well.
 pub fn line_of(answer: &Answer) -> &'static [u8]
@@ -23,26 +22,6 @@ pub fn line_of(answer: &Answer) -> &'static [u8]
     }
 }
 
-/// Why a line was not told whole.
-#[derive(Drop)]
-enum LineError {
-    Fault,
-    Memory,
-}
-
-fn write_line<E: Sink>(err: &mut E, line: &[u8]) -> Result<(), LineError>
-    ensures whole { OnOk result (Gains (E.bytes err.old) (E.bytes err.new) line.now) }
-    ensures cut { IsErrOf result LineError.Fault
-        → GainsPrefix (E.bytes err.old) (E.bytes err.new) line.now }
-    ensures fault { IsErrOf result LineError.Fault
-        → CountRose (E.faults err.old) (E.faults err.new) }
-    ensures memory { IsErrOf result LineError.Memory → E.bytes err.new ≡ E.bytes err.old }
-    ensures kept { E.faults err.old ≤ E.faults err.new }
-{
-    err.reserve(line.len()).map_err(|_| LineError::Memory)?;
-    write_whole(err, line).map_err(|_| LineError::Fault)
-}
-
 /// Tells an answer in one line, and leaves the sink alone where there is none.
 pub fn tell<E: Sink>(err: &mut E, answer: &Answer)
     ensures told { Tells (E.bytes err.old) (E.bytes err.new) (E.faults err.old) (E.faults err.new)
@@ -54,5 +33,5 @@ pub fn tell<E: Sink>(err: &mut E, answer: &Answer)
     if line.is_empty() {
         return;
     }
-    let _ = write_line(err, line);
+    let _ = write_text(err, line);
 }

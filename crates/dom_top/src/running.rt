@@ -1,0 +1,95 @@
+//! The top call.
+ghost use Rattle.std.specs.Prelude.{◌≡◌, ◌≤◌};
+ghost use Rattle.dom_top.specs.Answers.{code_of};
+ghost use Rattle.dom_top.specs.Messages.{message_of, Tells};
+ghost use Rattle.dom_top.specs.Solved.{IsAnswered, IsRight, IsSolvedText, course, written};
+ghost use Rattle.dom_top.specs.Words.{bytes_of};
+
+use crate::answer::{Answer, ModelFault, Status};
+use crate::message::tell;
+use crate::reading::{ModelError, TEXT_LIMIT, model_of};
+use crate::solving::solve_model;
+use crate::words::{Command, read_words};
+use dom_edge::{Folder, ReadError, Sink, read_whole};
+use std::alloc::Global;
+use std::thread::Threads;
+
+/// Does what the words ask for, which are those after the program's name: reads files of the folder, writes
+/// the answer to `out`, and tells in one line on `err` why there is none.
+pub fn run<R: Threads + Sync + AllocGlobal, F: Folder, O: Sink, E: Sink>(
+    rt: &R,
+    words: &[String],
+    folder: &mut F,
+    out: &mut O,
+    err: &mut E,
+) -> Status
+    ensures right { IsRight (bytes_of words.now) (course (F.bytes folder.old)
+        (F.read_faults folder.old) (F.read_faults folder.new)
+        (written (O.bytes out.old) (O.bytes out.new) (O.faults out.old) (O.faults out.new))) result.answer }
+    ensures told { Tells (E.bytes err.old) (E.bytes err.new) (E.faults err.old) (E.faults err.new)
+        (message_of result.answer) }
+    ensures silent { code_of result.answer ≡ 0 → err.new ≡ err.old }
+    ensures files { F.bytes folder.new ≡ F.bytes folder.old }
+    ensures reads { F.read_faults folder.old ≤ F.read_faults folder.new }
+    ensures writes { F.write_faults folder.new ≡ F.write_faults folder.old }
+    ensures out_faults { O.faults out.old ≤ O.faults out.new }
+    ensures err_faults { E.faults err.old ≤ E.faults err.new }
+{
+    let answer = answer_of(rt.alloc(), words, folder, out);
+    tell(err, &answer);
+    Status { answer }
+}
+
+// The answer to the words.
+fn answer_of<F: Folder, O: Sink>(
+    alloc: Global,
+    words: &[String],
+    folder: &mut F,
+    out: &mut O,
+) -> Answer
+    ensures right { IsRight (bytes_of words.now) (course (F.bytes folder.old)
+        (F.read_faults folder.old) (F.read_faults folder.new)
+        (written (O.bytes out.old) (O.bytes out.new) (O.faults out.old) (O.faults out.new))) result }
+    ensures files { F.bytes folder.new ≡ F.bytes folder.old }
+    ensures reads { F.read_faults folder.old ≤ F.read_faults folder.new }
+    ensures writes { F.write_faults folder.new ≡ F.write_faults folder.old }
+    ensures out_faults { O.faults out.old ≤ O.faults out.new }
+{
+    match read_words(words) {
+        Ok(Command::Solve { model }) => solve_file(alloc, model, folder, out),
+        Err(_) => Answer::WordsRefused,
+    }
+}
+
+// Reads the file of this name, and solves its model.
+fn solve_file<F: Folder, O: Sink>(alloc: Global, model: &str, folder: &mut F, out: &mut O) -> Answer
+    ensures right { IsAnswered (course (F.bytes folder.old)
+        (F.read_faults folder.old) (F.read_faults folder.new)
+        (written (O.bytes out.old) (O.bytes out.new) (O.faults out.old) (O.faults out.new)))
+        model.now result }
+    ensures files { F.bytes folder.new ≡ F.bytes folder.old }
+    ensures reads { F.read_faults folder.old ≤ F.read_faults folder.new }
+    ensures writes { F.write_faults folder.new ≡ F.write_faults folder.old }
+    ensures out_faults { O.faults out.old ≤ O.faults out.new }
+{
+    match read_whole(alloc, folder, model, TEXT_LIMIT + 1) {
+        Ok(text) => solve_text(alloc, text.as_slice(), out),
+        Err(ReadError::Fault) => Answer::ReadFault,
+        Err(ReadError::Memory) => Answer::NoMemory,
+    }
+}
+
+// Solves the model of a text.
+fn solve_text<O: Sink>(alloc: Global, text: &[u8], out: &mut O) -> Answer
+    ensures right { IsSolvedText text.now
+        (written (O.bytes out.old) (O.bytes out.new) (O.faults out.old) (O.faults out.new)) result }
+    ensures kept { O.faults out.old ≤ O.faults out.new }
+{
+    match model_of(alloc, text) {
+        Ok(model) => solve_model(alloc, &model, out),
+        Err(ModelError::NotBuilt) => Answer::ModelRefused {
+            fault: ModelFault::NotBuilt,
+        },
+        Err(ModelError::Memory) => Answer::NoMemory,
+    }
+}
