@@ -123,31 +123,16 @@ fn infeasible_bound_refuses_each_value(rt: HostRuntime) -> Result<(), Fail> {
 #[test]
 fn a_sum_is_compared_with_its_bound(rt: HostRuntime) -> Result<(), Fail> {
     let alloc = rt.alloc();
-    let million = 1_000_000;
+    let most = 1_000_000;
     for (coefs, bound, values, holds) in [
         ((1, 1), 3, (1, 2), true),
         ((1, 1), 3, (2, 2), false),
         ((-2, 3), -1, (2, 1), true),
         ((-2, 3), -2, (2, 1), false),
         ((0, 5), 4, (7, 1), false),
-        (
-            (million, million),
-            1_999_999_999_999,
-            (million, million),
-            false,
-        ),
-        (
-            (million, million),
-            2_000_000_000_000,
-            (million, million),
-            true,
-        ),
-        (
-            (million, million),
-            -2_000_000_000_000,
-            (-million, -million),
-            true,
-        ),
+        ((most, most), 1_999_999_999_999, (most, most), false),
+        ((most, most), 2_000_000_000_000, (most, most), true),
+        ((most, most), -2_000_000_000_000, (-most, -most), true),
     ] {
         assert!(rt; is_modest(coefs.0) && is_modest(coefs.1));
         assert!(rt; is_modest(values.0) && is_modest(values.1));
