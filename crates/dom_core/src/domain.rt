@@ -1,8 +1,10 @@
 //! Domains: sorted lists of distinct integers.
-ghost use Rattle.std.specs.Prelude.{◌≡◌, ◌<◌, ◌^◌, length, slice_get, Some, ◌≤ℤ◌};
+ghost use Rattle.std.specs.Prelude.{◌≡◌, ◌<◌, ◌^◌, length, slice_get, Some, ◌≤ℤ◌, IfOk};
 ghost use Rattle.dom_core.specs.Small.{IsSmall};
 ghost use Rattle.dom_core.specs.Rises.{Rises, is_among, first_of, last_of, count_of};
 
+use crate::ranks::{rank_between, rank_in};
+use std::alloc::{AllocError, Global};
 use std::marker::Model;
 use thiserror::Error;
 
@@ -47,6 +49,7 @@ impl Model for Domain {
 
 impl Domain {
     ghost use Rattle.dom_core.specs.Domain.{IsDomain, IsRange};
+    ghost use Rattle.dom_core.specs.Flagged.{IsRank};
 
     /// The integers from `lo` to `hi`, both among them.
     pub fn from_range(lo: i64, hi: i64) -> Result<Domain, DomainError>
@@ -117,6 +120,28 @@ impl Domain {
             }
             Kept::Listed(values) => values[index],
         }
+    }
+
+    /// How many values of the domain are less.
+    pub(crate) fn rank(&self, value: i64) -> usize
+        ensures rank { IsRank self.now value result }
+        ensures sound { IsDomain self.now }
+    {
+        match &self.kept {
+            Kept::Range(lo, hi) => rank_between(*lo, *hi, value),
+            Kept::Listed(values) => rank_in(values.as_slice(), value),
+        }
+    }
+
+    /// The same domain again.
+    pub fn duplicate(&self, alloc: Global) -> Result<Domain, AllocError>
+        ensures { IfOk result (λ d. d ≡ self.now) }
+    {
+        let kept = match &self.kept {
+            Kept::Range(lo, hi) => Kept::Range(*lo, *hi),
+            Kept::Listed(values) => Kept::Listed(values.as_slice().to_vec(alloc)?),
+        };
+        Ok(Domain { kept })
     }
 }
 

@@ -1,5 +1,5 @@
 -- Being better is an order.
-use Rattle.std.proofs.Common.{◌≡◌, List, ℤ, sym, ◌∙◌}
+use Rattle.std.proofs.Common.{List, ℤ}
 use Rattle.std.specs.Cmp.{IsTotalOrder}
 use Rattle.std.specs.Cmp.Lexicographic.{slice_cmp}
 use Rattle.std.specs.Ordering.{int_cmp}

@@ -7,6 +7,8 @@ mod goal;
 mod kind;
 mod model;
 mod output;
+#[cfg(test)]
+mod tests;
 mod variable;
 
 pub use builder::ModelBuilder;

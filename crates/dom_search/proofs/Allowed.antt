@@ -1,6 +1,6 @@
 -- The tuples of the domains of a model are the lists of allowed values.
-use Rattle.std.proofs.Common.{◌≡◌, true, List, [], ◌∷◌, map, refl, sym, ◌∙◌, arith, ℤ, ◌≤ℤ◌, ◌&&◌}
-use Rattle.dom_core.specs.Rises.{is_among, range_of}
+use Rattle.std.proofs.Common.{◌≡◌, true, List, [], ◌∷◌, map, sym, ◌∙◌, ℤ}
+use Rattle.dom_core.specs.Rises.{is_among}
 use Rattle.dom_core.proofs.RisesLaws.{range-among, both_le, le_from_first, le_from_second}
 use Rattle.dom_model.specs.declared.form.Declared.{Declared}
 use Rattle.dom_model.specs.declared.form.Declared.TheVariants.{Range}

@@ -1,5 +1,5 @@
 -- One domain after the other.
-use Rattle.std.proofs.Common.{◌≡◌, ℕ, zero, suc, ◌+◌, ◌*◌, ◌/◌, ◌%◌, ◌<◌, ◌≤◌, List, [], ◌∷◌, ◌++◌, length, map, take, drop, drop-cons, slice_index_or, refl, sym, ◌∙◌, ap, arith, pos, ℤ, add-one, set, append_assoc, ◌≤ℤ◌, Some}
+use Rattle.std.proofs.Common.{◌≡◌, ℕ, zero, suc, ◌+◌, ◌*◌, ◌/◌, ◌%◌, ◌<◌, ◌≤◌, List, [], ◌∷◌, ◌++◌, length, map, take, drop, drop-cons, slice_index_or, refl, sym, ◌∙◌, ap, arith, pos, ℤ, add-one, set, append_assoc, Some}
 use Rattle.std.specs.List.{All}
 use Rattle.std.proofs.lemmas.List.Elements.{All-head, All-tail, All-drop}
 use Rattle.std.proofs.Math.Nat.{mul_assoc, mul-pos, mul-suc, mul-div_cancel_left, mod-lt}
@@ -7,13 +7,12 @@ use Rattle.std.specs.List.{slice_get}
 use Rattle.std.proofs.Math.Seq.{take-suc-set}
 use Rattle.std.proofs.lemmas.Option.{get_or_from_slice_get, slice_get_within}
 use Rattle.std.proofs.lemmas.List.{drop-map, take_all, drop_all, append-nil}
-use Rattle.dom_core.specs.Rises.{count_of, range_of}
 use Rattle.dom_core.proofs.RisesLaws.{count_some, range-length}
 use Rattle.dom_model.specs.declared.form.Declared.{Declared}
 use Rattle.dom_model.specs.declared.form.Declared.TheVariants.{Range}
 use Rattle.dom_model.specs.declared.variable.Variable.{Variable}
 use Rattle.dom_model.specs.Bounds.{IsBounded, IsFitDeclared}
-use Rattle.dom_model.specs.Least.{domains_of, tuple_count_of, width_of, free_of}
+use Rattle.dom_model.specs.Least.{domains_of, tuple_count_of, width_of}
 use Rattle.dom_model.specs.Problem.{Problem}
 use Rattle.dom_model.specs.Variable.{values_of}
 use Rattle.dom_model.proofs.Keys.{length-first_variables}

@@ -1,5 +1,5 @@
 -- One tuple after the other, up to the outcome.
-use Rattle.std.proofs.Common.{◌≡◌, ℕ, zero, suc, inl, inr, ◌+◌, ◌<◌, ◌≤◌, ◌⊎◌, Bool, true, false, List, ℤ, refl, sym, ◌∙◌, subst, ap, arith}
+use Rattle.std.proofs.Common.{◌≡◌, ℕ, inl, inr, ◌+◌, ◌<◌, ◌⊎◌, Bool, true, false, List, ℤ, refl, sym, ◌∙◌, subst, ap, arith}
 use Rattle.std.proofs.lemmas.Bool.{cases_Bool}
 use Rattle.dom_core.proofs.RisesLaws.{less_or_same}
 use Rattle.dom_model.specs.Least.{IsFeasible, IsBetter, IsLeast, domains_of, tuple_count_of}

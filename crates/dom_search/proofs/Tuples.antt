@@ -1,5 +1,5 @@
 -- Each number below the count gives a tuple, and each tuple has such a number.
-use Rattle.std.proofs.Common.{◌≡◌, ℕ, zero, suc, inl, inr, ◌+◌, ◌*◌, ◌/◌, ◌%◌, ◌<◌, ◌≤◌, ◌⊎◌, true, List, [], ◌∷◌, length, slice_index_or, refl, sym, ◌∙◌, ap, arith, pos, ℤ, ◌↔◌, mul-zero}
+use Rattle.std.proofs.Common.{◌≡◌, ℕ, zero, suc, inl, inr, ◌+◌, ◌*◌, ◌/◌, ◌%◌, ◌<◌, ◌≤◌, true, List, [], ◌∷◌, length, slice_index_or, refl, sym, arith, pos, ℤ, mul-zero}
 use Rattle.std.proofs.lemmas.Nat.{div-mul-add, mod-mul-add}
 use Rattle.std.proofs.Math.Nat.{mod-lt, mul-le-mul_right, div-lt_iff_lt-mul}
 use Rattle.dom_core.specs.Rises.{is_among}

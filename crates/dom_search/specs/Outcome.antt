@@ -1,5 +1,5 @@
 -- What a search finds.
-use Rattle.std.specs.Prelude.{ℕ, ◌≤◌, List, ℤ}
+use Rattle.std.specs.Prelude.{◌≤◌, List, ℤ}
 use Rattle.dom_model.specs.Least.{IsFeasible, IsLeast, width_of}
 use Rattle.dom_model.specs.Problem.{Problem}
 use Rattle.dom_search.specs.declared.outcome.Outcome.{Outcome}

@@ -1,5 +1,5 @@
 -- How far a search has come.
-use Rattle.std.specs.Prelude.{◌≡◌, ℕ, ◌<◌, ◌⊎◌, Bool, true, false, List, ℤ, length}
+use Rattle.std.specs.Prelude.{◌≡◌, ℕ, ◌<◌, ◌⊎◌, Bool, true, false, List, ℤ}
 use Rattle.dom_model.specs.Least.{IsFeasible, IsBetter, domains_of}
 use Rattle.dom_model.specs.Problem.{Problem}
 use Rattle.dom_search.specs.Tuples.{tuple_at}

@@ -1,5 +1,5 @@
 -- The tuples of a list of domains, one value from each.
-use Rattle.std.specs.Prelude.{◌≡◌, ℕ, ◌+◌, ◌*◌, ◌/◌, ◌%◌, ◌<◌, true, List, [], ◌∷◌, length, slice_index_or, pos, ℤ}
+use Rattle.std.specs.Prelude.{◌≡◌, ℕ, ◌/◌, ◌%◌, true, List, [], ◌∷◌, slice_index_or, pos, ℤ}
 use Rattle.dom_core.specs.Rises.{is_among}
 use Rattle.dom_model.specs.Least.{tuple_count_of}
 

@@ -4,6 +4,8 @@
 mod all_tuples;
 mod count;
 mod outcome;
+#[cfg(test)]
+mod tests;
 mod tuple;
 
 pub use all_tuples::search;

@@ -9,3 +9,6 @@ mod variables;
 
 pub use error::LowerError;
 pub use lowering::{lower, one_model};
+
+#[cfg(test)]
+mod tests;

@@ -41,6 +41,13 @@ abbrev pub AreTight : List Cutting → List ℕ → Type 0
 AreTight [] rest = Unit {0}
 AreTight (p ∷ ps) rest = IsSpelled p.sort p.text × IsFine p.sort × Stops p.sort (bytes_of ps ++ rest) × AreTight ps rest
 
+-- a token as a piece, and a blank
+abbrev pub token_piece : What → List ℕ → Cutting
+token_piece what text = record { sort = Word what; text = text }
+
+abbrev pub blank_piece : ℕ → Cutting
+blank_piece b = record { sort = Blank; text = b ∷ [] }
+
 -- ---- what is no word is no digit and no letter
 
 no_word_no_digit : (base b : ℕ) → base ≤ 16 → is_word b ≡ false → is_digit base b ≡ false

@@ -1,7 +1,6 @@
 -- One line more, and the end of the text.
-use Rattle.std.proofs.Common.{refl, ◌≡◌, ◌<◌, ◌++◌, ◌∙◌, arith, length, ap}
+use Rattle.std.proofs.Common.{refl, ◌<◌, ◌∙◌, length}
 use Rattle.std.proofs.lemmas.List.{take_all}
-use Rattle.dom_report.specs.Text.{lines_of}
 use Rattle.dom_report.proofs.Lines.{one_line_more}
 use Rattle.dom_report.proofs.text.answer_text.Goals as goal
 

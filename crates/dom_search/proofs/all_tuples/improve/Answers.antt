@@ -1,5 +1,5 @@
 -- A candidate has a value for each variable.
-use Rattle.std.proofs.Common.{◌≡◌, ◌∙◌, sym, length}
+use Rattle.std.proofs.Common.{◌∙◌, sym}
 use Rattle.dom_model.proofs.Allowed.{allowed_length}
 use Rattle.dom_search.proofs.all_tuples.improve.Goals as goal
 

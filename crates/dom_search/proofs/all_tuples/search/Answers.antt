@@ -1,6 +1,6 @@
 -- Each turn tries one tuple more, and at the end every tuple was tried.
-use Rattle.std.proofs.Common.{◌≡◌, ◌≤◌, ◌<◌, ◌+◌, arith, sym, ◌∙◌, ℕ, true, false, length, subst}
-use Rattle.dom_model.specs.Least.{domains_of, tuple_count_of, width_of}
+use Rattle.std.proofs.Common.{◌≡◌, arith, sym}
+use Rattle.dom_model.specs.Least.{domains_of, tuple_count_of}
 use Rattle.dom_model.proofs.Allowed.{allowed_length}
 use Rattle.dom_search.proofs.Places.{count_within_width}
 use Rattle.dom_search.proofs.Progress.{one_more, is_least, is_none, written_allowed}

@@ -1,5 +1,5 @@
 -- One domain more keeps the product, and a product above the limit only grows.
-use Rattle.std.proofs.Common.{◌≡◌, ◌≤◌, ◌<◌, ◌*◌, ◌+◌, drop, arith, length}
+use Rattle.std.proofs.Common.{◌≡◌, ◌≤◌, ◌*◌, ◌+◌, drop, arith}
 use Rattle.dom_model.specs.Least.{domains_of, tuple_count_of}
 use Rattle.dom_search.proofs.Places.{count_more, rest_positive, product_no_less}
 use Rattle.dom_search.proofs.count.count_to_limit.Goals as goal

@@ -1,7 +1,7 @@
 -- The width is the product that is compared.
-use Rattle.std.proofs.Common.{◌≡◌, ◌≤◌, ◌*◌, ◌+◌, arith, ◌∙◌, ap, sym, length}
+use Rattle.std.proofs.Common.{◌≡◌, ◌*◌, ◌+◌, arith, sym}
 use Rattle.std.proofs.lemmas.Bool.Decides.{nat_tests}
-use Rattle.dom_model.specs.Least.{domains_of, tuple_count_of, width_of}
+use Rattle.dom_model.specs.Least.{width_of}
 use Rattle.dom_search.proofs.Places.{width-is}
 use Rattle.dom_search.proofs.count.is_narrow.Goals as goal
 

@@ -1,10 +1,9 @@
 -- One place more.
-use Rattle.std.proofs.Common.{◌≡◌, ◌≤◌, ◌<◌, ◌+◌, ◌/◌, arith, rules, length, set, drop, refl, FitsSigned, to_z, of_z, ◌∙◌, ap, ℤ}
+use Rattle.std.proofs.Common.{◌<◌, ◌+◌, arith, rules, length, FitsSigned}
 use Rattle.std.specs.Int.{w64}
 use Rattle.std.proofs.lemmas.Int.{to_z-of_z}
 use Rattle.std.proofs.lemmas.List.{length-set}
-use Rattle.dom_core.specs.Domain.{IsDomain}
-use Rattle.dom_model.specs.Least.{domains_of, tuple_count_of}
+use Rattle.dom_model.specs.Least.{domains_of}
 use Rattle.dom_search.proofs.Places.{rest_positive, next_block, value_within, one_written}
 use Rattle.dom_search.proofs.tuple.set_tuple.Goals as goal
 

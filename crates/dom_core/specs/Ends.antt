@@ -1,0 +1,55 @@
+-- Intervals of integers by their two ends.
+use Rattle.std.specs.Prelude.{◌≡◌, ◌&&◌, Bool, ℤ, pos, ◌+ℤ◌, ◌-ℤ◌, ◌*ℤ◌, ◌≤ℤ◌, ◌<ℤ◌, int_le, int_lt, if◌then◌else◌, Option, Some, None}
+use Rattle.std.specs.Int.{int_max, int_min}
+
+-- the two ends of an interval
+pub record Ends : Type 0 where
+  pub lo : ℤ
+  pub hi : ℤ
+
+-- the ends stand in order, so the interval has an integer
+abbrev pub IsOrdered : Ends → Type 0
+IsOrdered e = e.lo ≤ℤ e.hi
+
+-- the integer lies in the interval
+abbrev pub lies_in : ℤ → Ends → Bool
+lies_in x e = int_le e.lo x && int_le x e.hi
+
+-- the interval of one integer
+abbrev pub only : ℤ → Ends
+only x = record { lo = x; hi = x }
+
+-- the sums of an integer of the one and an integer of the other
+abbrev pub sum_ends : Ends → Ends → Ends
+sum_ends a b = record { lo = a.lo +ℤ b.lo; hi = a.hi +ℤ b.hi }
+
+-- the differences of an integer of the one and an integer of the other
+abbrev pub difference_ends : Ends → Ends → Ends
+difference_ends a b = record { lo = a.lo -ℤ b.hi; hi = a.hi -ℤ b.lo }
+
+-- the multiples of its integers by the factor, which turns it where it is negative
+abbrev pub scaled_ends : ℤ → Ends → Ends
+scaled_ends k a =
+    record { lo = if int_lt k (pos 0) then k *ℤ a.hi else k *ℤ a.lo; hi = if int_lt k (pos 0) then k *ℤ a.lo else k *ℤ a.hi }
+
+-- the least interval over both
+abbrev pub hull_ends : Ends → Ends → Ends
+hull_ends a b = record { lo = int_min a.lo b.lo; hi = int_max a.hi b.hi }
+
+-- the least interval over the products of an integer of the one and an integer of the other
+abbrev pub product_ends : Ends → Ends → Ends
+product_ends a b = hull_ends (scaled_ends a.lo b) (scaled_ends a.hi b)
+
+-- the integers in both
+abbrev pub meet_ends : Ends → Ends → Ends
+meet_ends a b = record { lo = int_max a.lo b.lo; hi = int_min a.hi b.hi }
+
+-- the integers in both, where there are any
+abbrev pub IsMeet : Ends → Ends → Option Ends → Type 0
+IsMeet a b (Some m) = (m ≡ meet_ends a b) × IsOrdered m
+IsMeet a b None = (meet_ends a b).hi <ℤ (meet_ends a b).lo
+
+-- the one integer of the interval, where it has no other
+abbrev pub IsSingle : Ends → Option ℤ → Type 0
+IsSingle e (Some x) = (e.lo ≡ x) × (e.hi ≡ x)
+IsSingle e None = e.lo <ℤ e.hi

@@ -1,0 +1,10 @@
+-- The tokens so far were taken, and the machine goes on with those that are left.
+use Rattle.std.proofs.Common.{◌≡◌, take, drop}
+use Rattle.fzn_nesting.specs.Machine.{run}
+use Rattle.fzn_nesting.specs.BalanceMachine.{balance_of, start_depth}
+use Rattle.fzn_nesting.proofs.RunSteps.{behind_all}
+use Rattle.fzn_nesting.proofs.OneLength.{itself}
+use Rattle.fzn_nesting.proofs.lengths.balanced_len.Given as goal
+
+abbrev pub invariant-loop-i : goal.invariant-loop-i
+invariant-loop-i l = behind_all (take l.i l.kinds) (run balance_of itself l.machine (drop l.i l.kinds)) ≡ run balance_of itself start_depth l.kinds
