@@ -3,9 +3,10 @@ use Rattle.std.specs.Prelude.{◌≡◌, ◌⊎◌, ℕ, ◌≤◌, ℤ, true, L
 use Rattle.dom_edge.specs.Causes.{CountRose}
 use Rattle.dom_edge.specs.File.{IsMissing, Holds}
 use Rattle.dom_edge.specs.Text.{Gains, GainsPrefix}
-use Rattle.dom_model.specs.Least.{IsFeasible, IsLeast, width_of}
+use Rattle.dom_model.specs.Least.{IsFeasible, IsLeast}
 use Rattle.dom_model.specs.Problem.{Problem}
 use Rattle.dom_report.specs.Text.{answer_text_of}
+use Rattle.dom_search.specs.Outcome.{AreNodes}
 use Rattle.dom_top.specs.declared.answer.Answer.{Answer}
 use Rattle.dom_top.specs.declared.answer.Answer.TheVariants.{Best, Infeasible, ModelRefused, WordsRefused, ReadFault, WriteFault, NoMemory}
 use Rattle.dom_top.specs.Built.{IsBuilt}
@@ -46,14 +47,14 @@ IsAnswerText p text =
 pub record IsBest (p : Problem) (out : Written) (values : List ℤ) (nodes nogoods : ℕ) : Type 0 where
   pub least : IsLeast p values
   pub text : Gains out.old out.new (answer_text_of p values true)
-  pub nodes_within : nodes ≤ width_of p
+  pub counted : AreNodes p nodes
   pub no_nogoods : nogoods ≡ 0
 
 -- no assignment is feasible, and the text says so
 pub record IsInfeasible (p : Problem) (out : Written) (nodes nogoods : ℕ) : Type 0 where
   pub none : HasNone p
   pub text : Gains out.old out.new unsatisfiable_text
-  pub nodes_within : nodes ≤ width_of p
+  pub counted : AreNodes p nodes
   pub no_nogoods : nogoods ≡ 0
 
 -- a write failed, and a prefix of the text was written

@@ -1,6 +1,7 @@
 //! Solving a model, and writing the answer.
 ghost use Rattle.std.specs.Prelude.{◌≡◌, ◌≤◌};
 ghost use Rattle.dom_model.specs.Least.{IsLeast, width_of};
+ghost use Rattle.dom_search.specs.Outcome.{AreNodes};
 ghost use Rattle.dom_top.specs.Solved.{HasNone, IsSolved, written};
 
 use crate::answer::Answer;
@@ -35,7 +36,7 @@ fn report_best<O: Sink>(
     out: &mut O,
 ) -> Answer
     requires least { IsLeast model.now best.now }
-    requires nodes { nodes ≤ width_of model.now }
+    requires nodes { AreNodes model.now nodes }
     ensures solved { IsSolved model.now
         (written (O.bytes out.old) (O.bytes out.new) (O.faults out.old) (O.faults out.new)) result }
     ensures kept { O.faults out.old ≤ O.faults out.new }
@@ -60,7 +61,7 @@ fn report_best<O: Sink>(
 // Writes that no assignment is feasible.
 fn report_none<O: Sink>(model: &Model, nodes: u64, out: &mut O) -> Answer
     requires none { HasNone model.now }
-    requires nodes { nodes ≤ width_of model.now }
+    requires nodes { AreNodes model.now nodes }
     ensures solved { IsSolved model.now
         (written (O.bytes out.old) (O.bytes out.new) (O.faults out.old) (O.faults out.new)) result }
     ensures kept { O.faults out.old ≤ O.faults out.new }

@@ -26,7 +26,7 @@ returns-then-found c =
     let end : c.loop-number.number ≡ tuple_count_of (domains_of c.args.model.now) =
     omega (arith, c.loop-number-test.false, c.loop-number.auto.number-end, c.tuple_count-count.ensures) in (
       is_least c.args.model.now c.loop-number.best (rw (end, c.if-found.true) at c.loop-number.invariant.so_far),
-      rw c.tuple_count-count.ensures (count_within_width c.args.model.now),
+      record { counted = c.tuple_count-count.ensures; within = rw c.tuple_count-count.ensures (count_within_width c.args.model.now) },
     )
 
 pub returns : goal.returns
@@ -34,5 +34,5 @@ returns c =
     let end : c.loop-number.number ≡ tuple_count_of (domains_of c.args.model.now) =
     omega (arith, c.loop-number-test.false, c.loop-number.auto.number-end, c.tuple_count-count.ensures) in (
       is_none c.args.model.now c.loop-number.best (rw (end, c.if-found.false) at c.loop-number.invariant.so_far),
-      rw c.tuple_count-count.ensures (count_within_width c.args.model.now),
+      record { counted = c.tuple_count-count.ensures; within = rw c.tuple_count-count.ensures (count_within_width c.args.model.now) },
     )
