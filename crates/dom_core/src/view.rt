@@ -115,3 +115,19 @@ impl Intervals for After<'_> {
         self.0.after(var)
     }
 }
+
+/// The intervals of change of a view.
+#[derive(Drop)]
+pub struct Changes<'a>(pub &'a View);
+
+impl Intervals for Changes<'_> {
+    ghost width = { λ c. length c.0.now };
+
+    ghost ready = { λ c v. Unit {0} };
+
+    ghost spans = { λ c v. (movement_at c.0.now v).change };
+
+    fn interval(&self, var: VarId) -> Interval {
+        self.0.change(var)
+    }
+}

@@ -1,0 +1,40 @@
+-- The laws of a kind that gives one of its variables its value.
+use Rattle.std.specs.Prelude.{◌≡◌, ◌-ℤ◌, Bool, true, not, List, ℕ, ℤ}
+use Rattle.std.specs.Ordering.{int_eq}
+use Rattle.dom_core.specs.Assignment.{entry_at, value_at}
+use Rattle.dom_core.specs.Cell.{lo_of, hi_of, ends_of, IsSane}
+use Rattle.dom_core.specs.Ends.{Ends, lies_in}
+use Rattle.dom_core.specs.declared.start.Start.{Start}
+use Rattle.dom_core.specs.declared.var_id.VarId.{VarId}
+use Rattle.dom_core.specs.declared.view.Movement.{Movement}
+use Rattle.kind_law.specs.Laws.{Each, AreWithin, EndsIn, Covers}
+
+-- the kind is met exactly where the output has the value that the inputs give
+abbrev pub ValueLaw : VarId → (List ℤ → ℤ) → (List ℤ → Bool) → Type 0
+ValueLaw output given met = (a : List ℤ) → met a ≡ int_eq (value_at a output) (given a)
+
+-- the value reads the inputs alone
+abbrev pub InputLaw : List VarId → (List ℤ → ℤ) → Type 0
+InputLaw inputs given = (a b : List ℤ) → Each (λ u. entry_at a u.0 ≡ entry_at b u.0) inputs → given a ≡ given b
+
+-- the range covers every value that inputs within the intervals give
+abbrev pub RangeLaw : List VarId → (List ℤ → ℤ) → ((ℕ → Ends) → Ends) → Type 0
+RangeLaw inputs given ranged = (a : List ℤ) (s : ℕ → Ends) → Each (λ u. lies_in (entry_at a u.0) (s u.0) ≡ true) inputs
+    → lies_in (given a) (ranged s) ≡ true
+
+-- the range over smaller intervals lies in the range over larger ones
+abbrev pub MonotoneLaw : List VarId → ((ℕ → Ends) → Ends) → Type 0
+MonotoneLaw inputs ranged = (small large : ℕ → Ends) → AreWithin inputs small large → EndsIn (ranged small) (ranged large)
+
+-- the change of the value lies in the change that the view gives
+abbrev pub ChangeLaw : List VarId → (List ℤ → ℤ) → (List Movement → Ends) → Type 0
+ChangeLaw inputs given changed = (view : List Movement) (a b : List ℤ) → Covers view inputs a b → lies_in (given b -ℤ given a) (changed view) ≡ true
+
+-- each of the variables has the value of the assignment alone
+abbrev pub AreFixed : (ℕ → Start) → List VarId → List ℤ → Type 0
+AreFixed b vars a = Each (λ u. (lo_of (b u.0) ≡ entry_at a u.0) × (hi_of (b u.0) ≡ entry_at a u.0)) vars
+
+-- where the inputs are fixed, the box is refuted exactly where the output's interval doesn't hold the value that they give
+abbrev pub FixesLaw : VarId → List VarId → (List ℤ → ℤ) → ((ℕ → Start) → Bool) → Type 0
+FixesLaw output inputs given refuted = (b : ℕ → Start) (a : List ℤ) → AreFixed b inputs a → IsSane (b output.0)
+    → refuted b ≡ not (lies_in (given a) (ends_of (b output.0)))

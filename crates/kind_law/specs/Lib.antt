@@ -1,0 +1,11 @@
+pub mod DefineLaws
+pub mod Laws
+pub mod Next
+pub use Rattle.dom_core.specs.Assignment
+pub use Rattle.dom_core.specs.Box
+pub use Rattle.dom_core.specs.Cell
+pub use Rattle.dom_core.specs.Ends
+pub use Rattle.dom_core.specs.Literal
+pub use Rattle.dom_core.specs.Rises
+pub use Rattle.dom_core.specs.Small
+pub use Rattle.dom_core.specs.View

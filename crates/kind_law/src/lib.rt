@@ -1,0 +1,11 @@
+//! The traits of constraint kinds with their laws, and what follows from the laws for every kind.
+#![tactic(auto)]
+
+mod define;
+mod kind;
+mod next;
+mod side;
+
+pub use define::Define;
+pub use kind::Kind;
+pub use next::next_of;

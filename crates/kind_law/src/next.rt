@@ -1,0 +1,145 @@
+//! The first end that a kind implies, found by asking whether smaller boxes are refuted.
+ghost use Rattle.std.specs.Prelude.{◌≡◌, ◌<◌, ◌≤◌, length, false, true, ℕ, ◌+◌};
+ghost use Rattle.dom_core.specs.Box.{cell_of, kept, IsBox};
+ghost use Rattle.dom_core.specs.Cell.{lo_of, hi_of};
+ghost use Rattle.kind_law.specs.Laws.{AllBelow, hulls};
+ghost use Rattle.kind_law.specs.Next.{IsNext, trim, size_of, steps_refuted, IsDeepest, IsSideEnd, end_literal, IsReadable, IsBound, IsFirstEnd};
+
+use crate::kind::Kind;
+use crate::side::Side;
+use dom_core::{Cells, Kept, Literal, Rel, VarId};
+
+/// The first implied end, in the order of the kind's variables, the lower end of each first.
+pub fn next_of<K: Kind>(kind: &K, cells: &Cells) -> Option<Literal>
+    requires below { AllBelow (length cells.now.starts) (K.vars kind.now) }
+    requires fits { K.fits kind.now (hulls (cell_of cells.now)) }
+    ensures { IsNext (K.refuted kind.now) (K.vars kind.now) (cell_of cells.now) result }
+{
+    for var in kind.vars() {
+        let end = first_end(kind, cells, *var);
+        if end.is_some() {
+            return end;
+        }
+    }
+    None
+}
+
+/// The end of the variable's cell that is implied, the lower one first.
+fn first_end<K: Kind>(kind: &K, cells: &Cells, var: VarId) -> Option<Literal>
+    requires var { IsReadable (K.vars kind.now) (length cells.now.starts) var }
+    requires fits { K.fits kind.now (hulls (cell_of cells.now)) }
+    ensures { IsFirstEnd (K.refuted kind.now) (cell_of cells.now) var result }
+{
+    if let Some(end) = end_of(kind, cells, var, Side::Low) {
+        return Some(end);
+    }
+    end_of(kind, cells, var, Side::High)
+}
+
+/// The end of the variable's cell that is implied on this side.
+fn end_of<K: Kind>(kind: &K, cells: &Cells, var: VarId, side: Side) -> Option<Literal>
+    requires var { IsReadable (K.vars kind.now) (length cells.now.starts) var }
+    requires fits { K.fits kind.now (hulls (cell_of cells.now)) }
+    ensures { IsSideEnd (K.refuted kind.now) (cell_of cells.now) var side result }
+{
+    let steps = deepest(kind, cells, var, side);
+    if steps == 0 {
+        return None;
+    }
+    Some(end_at(cells, var, side, steps))
+}
+
+/// The most steps from the end of the cell that a refuted box may have.
+fn deepest<K: Kind>(kind: &K, cells: &Cells, var: VarId, side: Side) -> u64
+    requires var { IsReadable (K.vars kind.now) (length cells.now.starts) var }
+    requires fits { K.fits kind.now (hulls (cell_of cells.now)) }
+    ensures sound { IsBox cells.now }
+    ensures deepest { IsDeepest (steps_refuted (K.refuted kind.now) (cell_of cells.now) var side) (size_of (cell_of cells.now var.0)) result }
+{
+    let size = distance(cells, var);
+    if size == 0 {
+        return 0;
+    }
+    if !is_refuted_within(kind, cells, trimmed(cells, var, side, 1)) {
+        return 0;
+    }
+    let mut known = 1;
+    let mut gap = size - 1;
+    while gap > 0 {
+        let half = gap - gap / 2;
+        if is_refuted_within(kind, cells, trimmed(cells, var, side, known + half)) {
+            known += half;
+            gap -= half;
+        } else {
+            gap = half - 1;
+        }
+    }
+    known
+}
+
+/// Whether the kind refutes the box with this bound more.
+fn is_refuted_within<K: Kind>(kind: &K, cells: &Cells, literal: Literal) -> bool
+    requires bound { IsBound (K.vars kind.now) (length cells.now.starts) (cell_of cells.now) literal }
+    requires fits { K.fits kind.now (hulls (cell_of cells.now)) }
+    requires sound { IsBox cells.now }
+    ensures { result ≡ K.refuted kind.now (kept (cell_of cells.now) literal) }
+{
+    let kept = Kept { cells, literal };
+    kind.refutes_in(&kept)
+}
+
+/// How far the ends of the cell lie apart.
+fn distance(cells: &Cells, var: VarId) -> u64
+    requires { var.0 < length cells.now.starts }
+    ensures size { result ≡ size_of (cell_of cells.now var.0) }
+    ensures sound { IsBox cells.now }
+{
+    let lo = cells.lo(var);
+    let hi = cells.hi(var);
+    (hi as i128 - lo as i128) as u64
+}
+
+/// The bound that leaves so many steps from one end of the cell.
+fn trimmed(cells: &Cells, var: VarId, side: Side, steps: u64) -> Literal
+    requires var { var.0 < length cells.now.starts }
+    requires some { 0 < steps }
+    requires few { steps ≤ size_of (cell_of cells.now var.0) }
+    ensures { result ≡ trim side var (lo_of (cell_of cells.now var.0)) (hi_of (cell_of cells.now var.0)) steps }
+{
+    let lo = cells.lo(var);
+    let hi = cells.hi(var);
+    match side {
+        Side::Low => Literal {
+            var,
+            rel: Rel::Le,
+            value: (lo as i128 + steps as i128 - 1) as i64,
+        },
+        Side::High => Literal {
+            var,
+            rel: Rel::Ge,
+            value: (hi as i128 - steps as i128 + 1) as i64,
+        },
+    }
+}
+
+/// The end so many steps from the end of the cell.
+fn end_at(cells: &Cells, var: VarId, side: Side, steps: u64) -> Literal
+    requires var { var.0 < length cells.now.starts }
+    requires few { steps ≤ size_of (cell_of cells.now var.0) }
+    ensures { result ≡ end_literal side var (lo_of (cell_of cells.now var.0)) (hi_of (cell_of cells.now var.0)) steps }
+{
+    let lo = cells.lo(var);
+    let hi = cells.hi(var);
+    match side {
+        Side::Low => Literal {
+            var,
+            rel: Rel::Ge,
+            value: (lo as i128 + steps as i128) as i64,
+        },
+        Side::High => Literal {
+            var,
+            rel: Rel::Le,
+            value: (hi as i128 - steps as i128) as i64,
+        },
+    }
+}

@@ -1,0 +1,10 @@
+//! Linear relations: sums of variables with coefficients, compared with a number.
+#![tactic(auto)]
+
+mod linear;
+mod relation;
+mod term;
+mod total;
+
+pub use linear::Linear;
+pub use relation::Relation;

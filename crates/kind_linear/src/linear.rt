@@ -1,0 +1,104 @@
+//! Linear relations.
+ghost use Rattle.std.specs.Prelude.{◌≡◌, IfOk, length};
+ghost use Rattle.kind_linear.specs.Sum.{terms_of};
+
+use crate::relation::{Relation, is_kept, is_met, is_refuted};
+use crate::term::{Reading, Term, distinct_vars, pair_up};
+use crate::total::total_of;
+use dom_core::{After, Arg, Assignment, Changes, Hulls, Point, Region, VarId, View};
+use kind_law::Kind;
+use std::alloc::{AllocError, Global};
+use std::marker::Model;
+
+/// A sum of variables and constants with coefficients, compared with a number.
+#[derive(Drop)]
+pub struct Linear {
+    terms: Vec<Term>,
+    relation: Relation,
+    bound: i64,
+    vars: Vec<VarId>,
+}
+
+impl Model for Linear {
+    ghost use Rattle.kind_linear.specs.Linear.{Form, form_vars};
+    ghost use Rattle.std.specs.Prelude.{◌≡◌};
+
+    ghost Value = { Form };
+
+    ghost view = { λ k. record { terms = k.terms.items; relation = k.relation; bound = k.bound } };
+
+    ghost invariant = { λ k. k.vars.items ≡ form_vars (record { terms = k.terms.items; relation = k.relation; bound = k.bound }) };
+}
+
+impl Linear {
+    /// The relation of the sum of the arguments, each times its coefficient, to the bound.
+    pub fn new(
+        alloc: Global,
+        coefs: &[i64],
+        args: &[Arg],
+        relation: Relation,
+        bound: i64,
+    ) -> Result<Linear, AllocError>
+        requires { length coefs.now ≡ length args.now }
+        ensures { IfOk result (λ k. k ≡ record { terms = terms_of coefs.now args.now; relation = relation; bound = bound }) }
+    {
+        let terms = pair_up(alloc, coefs, args)?;
+        let vars = distinct_vars(alloc, terms.as_slice())?;
+        Ok(Linear {
+            terms,
+            relation,
+            bound,
+            vars,
+        })
+    }
+}
+
+impl Kind for Linear {
+    ghost use Rattle.kind_linear.specs.Linear.{form_vars, FormFits, form_met, form_kept, form_refuted};
+    ghost use Rattle.kind_linear.specs.LinearLaws.{form-fits, form-shrink, form-fixed, form-keep};
+    ghost use Rattle.std.specs.Prelude.{false};
+
+    ghost vars = { form_vars };
+
+    ghost inside = { λ k v. false };
+
+    ghost fits = { FormFits };
+
+    ghost met = { form_met };
+
+    ghost kept = { form_kept };
+
+    ghost refuted = { form_refuted };
+
+    fn vars(&self) -> &[VarId] {
+        self.vars.as_slice()
+    }
+
+    fn is_inside(&self, _var: VarId) -> bool {
+        false
+    }
+
+    fn holds(&self, a: &Assignment) -> bool {
+        let sum = total_of(self.terms.as_slice(), Reading::Values, &Point(a));
+        is_met(self.relation, sum.lo(), self.bound)
+    }
+
+    fn keeps(&self, view: &View) -> bool {
+        let change = total_of(self.terms.as_slice(), Reading::Changes, &Changes(view));
+        let after = total_of(self.terms.as_slice(), Reading::Values, &After(view));
+        is_kept(self.relation, change, after, self.bound)
+    }
+
+    fn refutes_in<R: Region>(&self, cells: &R) -> bool {
+        let total = total_of(self.terms.as_slice(), Reading::Values, &Hulls(cells));
+        is_refuted(self.relation, total, self.bound)
+    }
+
+    ghost fits_law = { form-fits };
+
+    ghost shrink_law = { form-shrink };
+
+    ghost fixed_law = { form-fixed };
+
+    ghost keep_law = { form-keep };
+}

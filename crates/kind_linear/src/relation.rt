@@ -1,0 +1,56 @@
+//! How a sum is compared with a number.
+ghost use Rattle.std.specs.Prelude.{◌≡◌};
+ghost use Rattle.kind_linear.specs.Relation.{is_related, refuted_by, kept_by, is_only_value};
+
+use dom_core::Interval;
+
+/// A sum is at most, is equal to, or differs from a number.
+#[derive(Clone, Copy, Debug, PartialEq, Eq)]
+pub enum Relation {
+    AtMost,
+    Equal,
+    Differ,
+}
+
+/// Whether the sum stands in the relation to the bound.
+pub(crate) fn is_met(relation: Relation, sum: i128, bound: i64) -> bool
+    ensures { result ≡ is_related relation sum bound }
+{
+    let bound = bound as i128;
+    match relation {
+        Relation::AtMost => sum <= bound,
+        Relation::Equal => sum == bound,
+        Relation::Differ => sum != bound,
+    }
+}
+
+/// Whether no sum between the ends stands in the relation.
+pub(crate) fn is_refuted(relation: Relation, total: Interval, bound: i64) -> bool
+    ensures { result ≡ refuted_by relation total bound }
+{
+    let bound = bound as i128;
+    match relation {
+        Relation::AtMost => bound < total.lo(),
+        Relation::Equal => !total.has(bound),
+        Relation::Differ => total.lo() == bound && total.hi() == bound,
+    }
+}
+
+/// Whether the relation stays where the sum changes so and lies there afterwards.
+pub(crate) fn is_kept(relation: Relation, change: Interval, after: Interval, bound: i64) -> bool
+    ensures { result ≡ kept_by relation change after bound }
+{
+    let bound = bound as i128;
+    match relation {
+        Relation::AtMost => change.hi() <= 0 || after.hi() <= bound,
+        Relation::Equal => is_only(change, 0) || is_only(after, bound),
+        Relation::Differ => is_only(change, 0) || !after.has(bound),
+    }
+}
+
+/// Whether the number is the only one of the interval.
+fn is_only(interval: Interval, value: i128) -> bool
+    ensures { result ≡ is_only_value interval value }
+{
+    interval.lo() == value && interval.hi() == value
+}
