@@ -145,7 +145,7 @@ trim-end : (u : VarId) (side : Side) (lo hi : ℤ) (n : ℕ) → is_end (trim si
 trim-end u Low lo hi n = refl
 trim-end u High lo hi n = refl
 
-holds_there : (b : ℕ → Start) (l : Literal) (v : ℕ) (x : ℤ) → is_end l.rel ≡ true → v ≡ l.var.0 → has_of (kept b l v) x ≡ true → holds_at l x ≡ true
+pub holds_there : (b : ℕ → Start) (l : Literal) (v : ℕ) (x : ℤ) → is_end l.rel ≡ true → v ≡ l.var.0 → has_of (kept b l v) x ≡ true → holds_at l x ≡ true
 holds_there b l v x e same h = kept_holds b l x e (ap (λ (w : ℕ). has_of (kept b l w) x) (sym same) ∙ h)
 
 -- fewer steps are refuted where more are

@@ -1,3 +1,4 @@
 pub mod BoundLaws
 pub mod EachLaws
 pub mod NextLaws
+pub mod ReasonLaws

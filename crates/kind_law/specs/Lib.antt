@@ -1,6 +1,7 @@
 pub mod DefineLaws
 pub mod Laws
 pub mod Next
+pub mod Reason
 pub use Rattle.dom_core.specs.Assignment
 pub use Rattle.dom_core.specs.Box
 pub use Rattle.dom_core.specs.Cell

@@ -4,8 +4,12 @@
 mod define;
 mod kind;
 mod next;
+mod propagate;
+mod reason;
 mod side;
 
 pub use define::Define;
 pub use kind::Kind;
 pub use next::next_of;
+pub use propagate::Propagate;
+pub use reason::reason_of;

@@ -5,8 +5,10 @@ ghost use Rattle.kind_linear.specs.Sum.{terms_of};
 use crate::relation::{Relation, is_kept, is_met, is_refuted};
 use crate::term::{Reading, Term, distinct_vars, pair_up};
 use crate::total::total_of;
-use dom_core::{After, Arg, Assignment, Changes, Hulls, Point, Region, VarId, View};
-use kind_law::Kind;
+use dom_core::{
+    After, Arg, Assignment, Cells, Changes, Clause, Hulls, Literal, Point, Region, VarId, View,
+};
+use kind_law::{Kind, Propagate, next_of, reason_of};
 use std::alloc::{AllocError, Global};
 use std::marker::Model;
 
@@ -101,4 +103,19 @@ impl Kind for Linear {
     ghost fixed_law = { form-fixed };
 
     ghost keep_law = { form-keep };
+}
+
+impl Propagate for Linear {
+    fn next(&self, cells: &Cells) -> Option<Literal> {
+        next_of(self, cells)
+    }
+
+    fn reason(
+        &self,
+        cells: &Cells,
+        implied: Option<Literal>,
+        out: &mut Clause,
+    ) -> Result<(), AllocError> {
+        reason_of(self, cells, implied, out)
+    }
 }
