@@ -1,5 +1,5 @@
 -- The words of a text: its tokens, each with what the grammar needs of its bytes.
-use Rattle.std.specs.Prelude.{ℕ, ◌-◌, Bool, ◌==◌, List, [], take, drop, map, ℤ, Option, Some, None, if◌then◌else◌, codes}
+use Rattle.std.specs.Prelude.{ℕ, ◌-◌, Bool, false, ◌||◌, ◌==◌, List, [], ◌∷◌, take, drop, map, ℤ, Option, Some, None, if◌then◌else◌, codes}
 use Rattle.std.specs.Str.{bytes_eq}
 use Rattle.fzn_lex.specs.declared.words.What.{What}
 use Rattle.fzn_lex.specs.declared.words.What.TheVariants as what
@@ -61,6 +61,12 @@ name_kind text =
     else if bytes_eq text (codes "true") then kinds.True
     else if bytes_eq text (codes "var") then kinds.Var
     else kinds.Name
+
+-- a reserved word begins with one of these bytes
+abbrev pub leads_reserved : List ℕ → Bool
+leads_reserved [] = false
+leads_reserved (b ∷ text) =
+    (b == 97) || ((b == 98) || ((b == 99) || ((b == 102) || ((b == 105) || ((b == 109) || ((b == 111) || ((b == 112) || ((b == 115) || ((b == 116) || (b == 118))))))))))
 
 -- the kind of a token of this text
 unfoldable pub kind_by : What → List ℕ → Kind

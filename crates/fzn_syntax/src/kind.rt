@@ -1,6 +1,6 @@
 //! The kinds of words.
 ghost use Rattle.std.specs.Prelude.{◌≡◌};
-ghost use Rattle.fzn_syntax.specs.Words.{code, name_kind, kind_by};
+ghost use Rattle.fzn_syntax.specs.Words.{code, leads_reserved, name_kind, kind_by};
 
 use fzn_lex::What;
 
@@ -46,9 +46,25 @@ pub(crate) fn code(kind: Kind) -> u8
     kind as u8
 }
 
+// Most names are told from reserved words by their first byte.
+fn leads_reserved(text: &[u8]) -> bool
+    ensures { result ≡ leads_reserved text.now }
+{
+    match text {
+        [] => false,
+        [first, ..] => matches!(
+            *first,
+            b'a' | b'b' | b'c' | b'f' | b'i' | b'm' | b'o' | b'p' | b's' | b't' | b'v'
+        ),
+    }
+}
+
 pub(crate) fn name_kind(text: &[u8]) -> Kind
     ensures { result ≡ name_kind text.now }
 {
+    if !leads_reserved(text) {
+        return Kind::Name;
+    }
     if text == b"array".as_slice() {
         return Kind::Array;
     }
