@@ -1,0 +1,13 @@
+//! The constraints that a text may post.
+#![tactic(auto)]
+
+mod argument_type;
+mod row;
+mod shape;
+
+pub use argument_type::ArgumentType;
+pub use row::{Row, row_of};
+pub use shape::{Comparison, Relation, Shape};
+
+#[cfg(test)]
+mod tests;
