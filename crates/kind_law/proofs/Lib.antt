@@ -1,4 +1,5 @@
 pub mod BoundLaws
+pub mod ChangeLaws
 pub mod EachLaws
 pub mod NextLaws
 pub mod ReasonLaws

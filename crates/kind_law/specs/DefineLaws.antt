@@ -1,9 +1,10 @@
 -- The laws of a kind that gives one of its variables its value.
-use Rattle.std.specs.Prelude.{◌≡◌, ◌-ℤ◌, Bool, true, not, List, ℕ, ℤ}
+use Rattle.std.specs.Prelude.{◌≡◌, ◌-ℤ◌, ◌&&◌, Bool, true, not, if◌then◌else◌, List, [], ◌∷◌, ℕ, ℤ, pos, int_le}
 use Rattle.std.specs.Ordering.{int_eq}
 use Rattle.dom_core.specs.Assignment.{entry_at, value_at}
 use Rattle.dom_core.specs.Cell.{lo_of, hi_of, ends_of, IsSane}
-use Rattle.dom_core.specs.Ends.{Ends, lies_in}
+use Rattle.dom_core.specs.Ends.{Ends, lies_in, only, meet_ends, difference_ends}
+use Rattle.dom_core.specs.View.{movement_at}
 use Rattle.dom_core.specs.declared.start.Start.{Start}
 use Rattle.dom_core.specs.declared.var_id.VarId.{VarId}
 use Rattle.dom_core.specs.declared.view.Movement.{Movement}
@@ -38,3 +39,21 @@ AreFixed b vars a = Each (λ u. (lo_of (b u.0) ≡ entry_at a u.0) × (hi_of (b 
 abbrev pub FixesLaw : VarId → List VarId → (List ℤ → ℤ) → ((ℕ → Start) → Bool) → Type 0
 FixesLaw output inputs given refuted = (b : ℕ → Start) (a : List ℤ) → AreFixed b inputs a → IsSane (b output.0)
     → refuted b ≡ not (lies_in (given a) (ends_of (b output.0)))
+
+-- the interval is 0 alone
+abbrev pub is_still : Ends → Bool
+is_still e = int_eq e.lo (pos 0) && int_eq e.hi (pos 0)
+
+-- the view moves none of the variables
+abbrev pub all_still : List VarId → List Movement → Bool
+all_still [] view = true
+all_still (u ∷ us) view = is_still (movement_at view u.0).change && all_still us view
+
+-- the integers in both, or those of the second where there are none
+abbrev pub met_or_second : Ends → Ends → Ends
+met_or_second a b = if int_le (meet_ends a b).lo (meet_ends a b).hi then meet_ends a b else b
+
+-- the change of a defined variable: 0 where no input moves, else what its row of changes and its ranges before and
+-- after both allow
+abbrev pub changed_by : Bool → Ends → Ends → Ends → Ends
+changed_by still row before after = if still then only (pos 0) else met_or_second row (difference_ends after before)

@@ -1,6 +1,7 @@
 //! The traits of constraint kinds with their laws, and what follows from the laws for every kind.
 #![tactic(auto)]
 
+mod change;
 mod define;
 mod kind;
 mod next;
@@ -8,6 +9,7 @@ mod propagate;
 mod reason;
 mod side;
 
+pub use change::{are_still, change_by};
 pub use define::Define;
 pub use kind::Kind;
 pub use next::next_of;
