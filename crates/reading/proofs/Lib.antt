@@ -3,3 +3,4 @@ pub mod Joins
 pub mod Loops
 pub mod Lists
 pub mod Faults
+pub mod Machines

@@ -26,7 +26,7 @@ module _ {S X : Type 0} where
   abbrev pub with_front : List X → Answer S (List X) → Answer S (List X)
   with_front front answer = answer >>= λ x. Ok (front ++ x.0, x.1)
 
-  front_moves : (front : List X) (x : X) (answer : Answer S (List X)) → with_front front (answer >>= λ xs. Ok (x ∷ xs.0, xs.1)) ≡ with_front (front ++ x ∷ []) answer
+  pub front_moves : (front : List X) (x : X) (answer : Answer S (List X)) → with_front front (answer >>= λ xs. Ok (x ∷ xs.0, xs.1)) ≡ with_front (front ++ x ∷ []) answer
   front_moves front x (Ok xs) = ap (λ (l : List X). Ok (l, xs.1)) (sym (append_assoc front (x ∷ []) xs.0))
   front_moves front x (Err n) = refl
 

@@ -1,0 +1,13 @@
+pub mod Choices
+pub mod Firsts
+pub mod Types
+pub mod Expressions
+pub mod Places
+pub mod PlacesBack
+pub mod PlacesForth
+pub mod Enclosures
+pub mod ArgumentLaws
+pub mod BalanceLaws
+pub mod ItemLaws
+pub mod TextLaws
+pub mod WordLoops

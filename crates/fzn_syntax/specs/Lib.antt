@@ -1,0 +1,12 @@
+pub mod Words
+pub mod Grammar
+pub mod Reading
+pub mod Arguments
+pub mod Position
+pub mod Turns
+pub mod Moves
+pub mod Around
+pub mod Balance
+pub mod Items
+pub mod ItemReading
+pub mod Parsed
