@@ -9,3 +9,4 @@ pub mod Longest
 pub mod Fronts
 pub mod OneAnswer
 pub mod TightPieces
+pub mod KeptTokens

@@ -1,5 +1,0 @@
-pub mod Nested
-pub mod Machine
-pub mod ArgumentMachine
-pub mod BalanceMachine
-pub mod Lengths

@@ -1,0 +1,4 @@
+pub mod Marks
+pub mod Canonical
+pub mod Aside
+pub mod ReadBack
