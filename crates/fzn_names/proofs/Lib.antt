@@ -1,0 +1,6 @@
+mod Answers
+mod Counting
+mod Faults
+mod Keys
+mod Lists
+mod Whole

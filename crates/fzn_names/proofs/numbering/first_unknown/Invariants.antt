@@ -1,0 +1,7 @@
+-- None of those so far is unknown.
+use Rattle.std.proofs.Common.{ℕ, ◌<◌}
+use Rattle.fzn_names.specs.Numbered.{IsUnknown}
+use Rattle.fzn_names.proofs.numbering.first_unknown.Given as goal
+
+abbrev pub invariant-loop-occurrence : goal.invariant-loop-occurrence
+invariant-loop-occurrence l = (j at : ℕ) → j < l.occurrence-index → IsUnknown l.names l.occurrences j at → ⊥
