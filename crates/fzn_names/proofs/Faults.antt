@@ -3,20 +3,19 @@ use Rattle.std.proofs.Common.{ℕ, ◌<◌, ◌≤◌, ◌↔◌, List, length, 
 use Rattle.std.proofs.lemmas.Option.{slice_get_within}
 use Rattle.fzn_names.specs.declared.error.NameError.{NameError}
 use Rattle.fzn_names.specs.declared.error.NameError.TheVariants.{NameTwice, UnknownName, Memory}
-use Rattle.fzn_names.specs.declared.occurrence.Occurrence.{Occurrence}
 use Rattle.fzn_names.specs.Counted.{HasNoDouble, IsFirstUnknown, IsNowhere}
 use Rattle.fzn_names.specs.Listed.{IsListed}
-use Rattle.fzn_names.specs.Numbered.{declared_names, IsTwice, IsUnknown, IsFault, IsFineBefore, IsFirstFault}
+use Rattle.fzn_names.specs.Numbered.{Mark, declared_names, IsTwice, IsUnknown, IsFault, IsFineBefore, IsFirstFault}
 use Rattle.fzn_names.proofs.Lists.{among_first, first_among}
 
-module _ (os : List Occurrence) (names : List (List ℕ)) (fine : ℕ) (same : (n : List ℕ) → IsListed names n ↔ IsListed (declared_names os) n) (none : HasNoDouble os fine) where
+module _ (os : List Mark) (names : List (List ℕ)) (fine : ℕ) (same : (n : List ℕ) → IsListed names n ↔ IsListed (declared_names os) n) (none : HasNoDouble os fine) where
   unknown_in_whole : (k at : ℕ) → IsUnknown names (take fine os) k at → (k < fine) × IsUnknown (declared_names os) os k at
   unknown_in_whole k at h =
       let there = among_first os fine k h.0 h.1 in
-      (there.0, (h.0, there.1, h.2, λ listed. h.3 ((same h.0.name.now).1 listed), h.4))
+      (there.0, (h.0, there.1, h.2, λ listed. h.3 ((same h.0.name).1 listed), h.4))
 
   unknown_in_front : (k at : ℕ) → k < fine → IsUnknown (declared_names os) os k at → IsUnknown names (take fine os) k at
-  unknown_in_front k at lt h = (h.0, first_among os fine k h.0 lt h.1, h.2, λ listed. h.3 ((same h.0.name.now).0 listed), h.4)
+  unknown_in_front k at lt h = (h.0, first_among os fine k h.0 lt h.1, h.2, λ listed. h.3 ((same h.0.name).0 listed), h.4)
 
   fine_before : (k : ℕ) → k ≤ fine → ((j at : ℕ) → j < k → IsUnknown names (take fine os) j at → ⊥) → IsFineBefore os k
   fine_before k le known j (NameTwice at) lt h = none j at (omega (arith, lt, le)) h

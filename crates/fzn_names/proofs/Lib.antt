@@ -3,4 +3,6 @@ mod Counting
 mod Faults
 mod Keys
 mod Lists
+mod Marked
 mod Whole
+mod Texts

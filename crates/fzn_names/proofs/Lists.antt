@@ -1,9 +1,8 @@
 -- Places in lists, and the declared names of the front of a text.
 use Rattle.std.proofs.Common.{◌≡◌, ℕ, zero, suc, ◌<◌, List, [], ◌∷◌, ◌++◌, length, take, Some, slice_get, refl, sym, ◌∙◌, ap, arith, ◌⊎◌, inl, inr}
 use Rattle.std.proofs.lemmas.List.{append_assoc, append-nil}
-use Rattle.fzn_names.specs.declared.occurrence.Occurrence.{Occurrence}
 use Rattle.fzn_names.specs.Listed.{IsListed}
-use Rattle.fzn_names.specs.Numbered.{declared_by, declared_names}
+use Rattle.fzn_names.specs.Numbered.{Mark, declared_by, declared_names}
 
 -- ---- places
 
@@ -47,11 +46,11 @@ listed_cases (x ∷ xs) y n (suc i) e =
 -- ---- declared names
 
 -- one occurrence more
-pub declared_next : (os : List Occurrence) (k : ℕ) (o : Occurrence) → slice_get os k ≡ Some o → declared_names (take (suc k) os) ≡ declared_names (take k os) ++ declared_by o.role o.name.now
+pub declared_next : (os : List Mark) (k : ℕ) (o : Mark) → slice_get os k ≡ Some o → declared_names (take (suc k) os) ≡ declared_names (take k os) ++ declared_by o.role o.name
 declared_next [] k o e = absurd cc
 declared_next (p ∷ os) zero o e =
     let is : p ≡ o = cc in
-    rw is (append-nil (declared_by o.role o.name.now))
+    rw is (append-nil (declared_by o.role o.name))
 declared_next (p ∷ os) (suc k) o e =
-    let before = declared_by p.role p.name.now in
-    ap (λ (ns : List (List ℕ)). before ++ ns) (declared_next os k o e) ∙ sym (append_assoc before (declared_names (take k os)) (declared_by o.role o.name.now))
+    let before = declared_by p.role p.name in
+    ap (λ (ns : List (List ℕ)). before ++ ns) (declared_next os k o e) ∙ sym (append_assoc before (declared_names (take k os)) (declared_by o.role o.name))

@@ -3,8 +3,9 @@ ghost use Rattle.std.specs.Prelude.{◌≡◌, ◌≤◌, ◌<◌, ◌↔◌, �
 ghost use Rattle.fzn_names.specs.declared.error.NameError.TheVariants.{Memory};
 ghost use Rattle.fzn_names.specs.Counted.{Counts, IsFirstUnknown, IsNowhere, fine_of};
 ghost use Rattle.fzn_names.specs.Listed.{IsUnlisted};
+ghost use Rattle.fzn_names.specs.Marks.{marks_of};
 ghost use Rattle.fzn_names.specs.Noted.{IsNoted, earlier_of};
-ghost use Rattle.fzn_names.specs.Numbered.{IsNumbered};
+ghost use Rattle.fzn_names.specs.Numbered.{Mark, IsNumbered};
 
 use crate::error::NameError;
 use crate::names::Names;
@@ -13,7 +14,7 @@ use std::alloc::Global;
 
 /// A text has one answer, but for want of memory.
 pub fn one_answer()
-    ensures { (os : List Occurrence) (r s : Result (List (List ℕ)) NameError) → IsNumbered os r → IsNumbered os s → (r ≡ Err Memory → ⊥) → (s ≡ Err Memory → ⊥) → r ≡ s }
+    ensures { (os : List Mark) (r s : Result (List (List ℕ)) NameError) → IsNumbered os r → IsNumbered os s → (r ≡ Err Memory → ⊥) → (s ≡ Err Memory → ⊥) → r ≡ s }
 {}
 
 /// The declared names of a text, whose occurrences stand in order, or the first fault among them. A name may be used before it is declared.
@@ -21,7 +22,7 @@ pub fn number_names<'a>(
     alloc: Global,
     occurrences: &[Occurrence<'a>],
 ) -> Result<Names<'a>, NameError>
-    ensures { IsNumbered occurrences.now result }
+    ensures { IsNumbered (marks_of occurrences.now) result }
 {
     let mut names = Names::new(alloc);
     let double = declare_all(&mut names, occurrences)?;
@@ -43,7 +44,7 @@ fn declare_all<'a>(
     occurrences: &[Occurrence<'a>],
 ) -> Result<Option<usize>, NameError>
     requires { names.old ≡ [] }
-    ensures { Counts occurrences.now (length occurrences.now) names.new result }
+    ensures { Counts (marks_of occurrences.now) (length (marks_of occurrences.now)) names.new result }
 {
     let mut double = None;
     for (place, occurrence) in occurrences.iter().enumerate() {
@@ -87,7 +88,7 @@ fn is_unknown<'a>(names: &Names<'a>, occurrence: &Occurrence<'a>) -> bool
 
 // The first byte of the first name that is used and not listed.
 fn first_unknown<'a>(names: &Names<'a>, occurrences: &[Occurrence<'a>]) -> Option<u64>
-    ensures { MatchOption result (IsNowhere names.now occurrences.now) (IsFirstUnknown names.now occurrences.now) }
+    ensures { MatchOption result (IsNowhere names.now (marks_of occurrences.now)) (IsFirstUnknown names.now (marks_of occurrences.now)) }
 {
     for occurrence in occurrences {
         if is_unknown(names, occurrence) {
