@@ -4,6 +4,8 @@
 mod linear;
 mod relation;
 mod term;
+#[cfg(test)]
+mod tests;
 mod total;
 
 pub use linear::Linear;
