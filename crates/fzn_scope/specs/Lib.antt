@@ -1,0 +1,4 @@
+pub mod Names
+pub mod Bases
+pub mod Sorts
+pub mod Typing

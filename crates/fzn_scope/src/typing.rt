@@ -1,0 +1,88 @@
+//! Which expressions are constants, or variables, of a base type.
+ghost use Rattle.std.specs.Prelude.{◌≡◌, ◌↔◌, IsTrue};
+ghost use Rattle.fzn_scope.specs.Sorts.{sort_of, Names};
+ghost use Rattle.fzn_scope.specs.Typing.{NamesScalar, Fits, AllFit};
+
+use crate::base::{Base, are_integers, is_integer};
+use crate::scope::Scope;
+use crate::sort::{Sort, sort_of};
+use fzn_syntax::{Basic, Declaration};
+
+/// What may stand at a place.
+#[derive(Clone, Copy, Debug, PartialEq, Eq, Drop)]
+pub enum Reading {
+    /// Literals and parameters.
+    Constant,
+    /// Variables too.
+    Entry,
+}
+
+fn is_sort(declaration: &Declaration, sort: Sort) -> bool
+    ensures { IsTrue result ↔ (sort_of declaration.now ≡ sort) }
+{
+    sort_of(declaration) == sort
+}
+
+// Whether the name is declared and is of this sort.
+fn names(scope: &Scope<'_>, name: &[u8], sort: Sort) -> bool
+    ensures { IsTrue result ↔ Names scope.now name.now sort }
+{
+    // A name is that of one declaration.
+    let _ = scope.declarations();
+    match scope.declaration(name) {
+        None => false,
+        Some(declaration) => is_sort(declaration, sort),
+    }
+}
+
+fn names_scalar(scope: &Scope<'_>, reading: Reading, base: Base, name: &[u8]) -> bool
+    ensures { IsTrue result ↔ NamesScalar scope.now reading base name.now }
+{
+    let parameter = names(
+        scope,
+        name,
+        Sort {
+            base,
+            is_variable: false,
+            is_array: false,
+        },
+    );
+    match reading {
+        Reading::Constant => parameter,
+        Reading::Entry => {
+            parameter
+                || names(
+                    scope,
+                    name,
+                    Sort {
+                        base,
+                        is_variable: true,
+                        is_array: false,
+                    },
+                )
+        }
+    }
+}
+
+/// Whether the expression is a literal of this base type, or names a scalar that may stand here.
+pub fn fits(scope: &Scope<'_>, reading: Reading, base: Base, basic: &Basic) -> bool
+    ensures { IsTrue result ↔ Fits scope.now reading base basic.now }
+{
+    match basic {
+        Basic::True => base == Base::Bool,
+        Basic::False => base == Base::Bool,
+        Basic::Name(name) => names_scalar(scope, reading, base, name.name.as_bytes()),
+        Basic::Number(number) => base == Base::Int && is_integer(number),
+        Basic::Range(bounds) => {
+            base == Base::Set && is_integer(&bounds.lower) && is_integer(&bounds.upper)
+        }
+        Basic::Set(numbers) => base == Base::Set && are_integers(numbers.as_slice()),
+    }
+}
+
+/// Whether each of them does.
+pub fn are_all(scope: &Scope<'_>, reading: Reading, base: Base, basics: &[Basic]) -> bool
+    ensures { IsTrue result ↔ AllFit scope.now reading base basics.now }
+{
+    basics.iter().all(|basic| fits(scope, reading, base, basic))
+}
