@@ -1,0 +1,4 @@
+mod MetLaws
+mod Places
+mod RowLaws
+mod SearchLaws

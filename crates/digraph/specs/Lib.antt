@@ -1,0 +1,4 @@
+pub mod Cycle
+pub mod Grown
+pub mod Met
+pub mod Rows

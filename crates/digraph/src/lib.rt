@@ -1,0 +1,11 @@
+//! Directed graphs, and the first of some nodes that lies on a cycle.
+#![tactic(auto)]
+
+mod cycle;
+mod graph;
+mod search;
+
+pub use graph::Digraph;
+
+#[cfg(test)]
+mod tests;
