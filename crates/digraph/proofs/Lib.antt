@@ -1,4 +1,6 @@
+mod GrownLaws
 mod MetLaws
 mod Places
+mod RankLaws
 mod RowLaws
 mod SearchLaws

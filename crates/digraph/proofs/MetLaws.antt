@@ -1,12 +1,10 @@
 -- What a search has met: it stays met, and what is known of it stays true.
-use Rattle.std.proofs.Common.{◌≡◌, ◌↔◌, ◌⊎◌, inl, inr, ℕ, zero, suc, ◌+◌, ◌-◌, ◌<◌, ◌≤◌, Bool, true, false, cond, List, [], ◌∷◌, ◌++◌, length, get_or, set, slice_get, replicate, Option, Some, None, refl, sym, ap, ◌∙◌, subst, arith}
+use Rattle.std.proofs.Common.{◌≡◌, ◌⊎◌, inl, inr, ℕ, zero, suc, ◌+◌, ◌<◌, Bool, true, false, List, [], ◌∷◌, ◌++◌, length, get_or, set, slice_get, Some, refl, sym, ap, ◌∙◌, subst, arith}
 use Rattle.std.specs.List.{Contains}
 use Rattle.std.proofs.lemmas.Bool.{cases_Bool}
-use Rattle.std.proofs.lemmas.List.{length-set, length-replicate, get_or-replicate, length_push}
-use Rattle.std.proofs.lemmas.Option.{slice_get_within}
-use Rattle.digraph.specs.Cycle.{Leads, IsPath, Reaches, IsOnCycle}
+use Rattle.std.proofs.lemmas.List.{length_push}
 use Rattle.digraph.specs.Met.{Met, is_met, met_with, met_with_all}
-use Rattle.digraph.proofs.Places.{one_there, there_left, there_last, there_cases, past_none}
+use Rattle.digraph.proofs.Places.{there_left}
 
 -- ---- flags
 

@@ -1,4 +1,5 @@
 pub mod Cycle
 pub mod Grown
 pub mod Met
+pub mod Ranked
 pub mod Rows

@@ -3,7 +3,7 @@ ghost use Rattle.std.specs.Prelude.{◌≡◌, ◌<◌, ◌≤◌, ◌+◌, ◌-
 ghost use Rattle.digraph.specs.Cycle.{HasNoneOnCycle, IsFirstOnCycle};
 ghost use Rattle.digraph.specs.Grown.{GainsNode, GainsEdge};
 
-use crate::cycle;
+use crate::{cycle, ranking};
 use std::alloc::{AllocError, Global};
 use std::marker::Model;
 
@@ -43,6 +43,11 @@ impl Digraph {
         self.starts.len()
     }
 
+    /// How many successors all nodes have together.
+    pub(crate) fn edges(&self) -> usize {
+        self.targets.len()
+    }
+
     /// Adds a node, which has no successors yet.
     pub fn node(&mut self) -> Result<(), AllocError>
         ensures ok { OnOk result (GainsNode self.old self.new) }
@@ -78,8 +83,9 @@ impl Digraph {
         requires { length among.now ≡ length self.now }
         ensures { IfOk result (λ first. MatchOption first (HasNoneOnCycle self.now among.now) (IsFirstOnCycle self.now among.now)) }
     {
+        let ranks = ranking::ranks_of(alloc, self)?;
         for (node, asked) in among.iter().enumerate() {
-            if *asked && cycle::is_on_cycle(alloc, self, node)? {
+            if *asked && cycle::lies_on_cycle(alloc, self, &ranks, node)? {
                 return Ok(Some(node));
             }
         }

@@ -3,7 +3,9 @@
 
 mod cycle;
 mod graph;
+mod ranking;
 mod search;
+mod walk;
 
 pub use graph::Digraph;
 

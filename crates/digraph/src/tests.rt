@@ -4,16 +4,31 @@ use std::alloc::{AllocError, Global};
 
 fn shared<T: Send + Sync>(_: &T) {}
 
+// Adds a node with these successors.
+fn add(graph: &mut Digraph, row: &[u32]) -> Result<(), AllocError> {
+    graph.node()?;
+    for to in row {
+        graph.edge(*to)?;
+    }
+    Ok(())
+}
+
 fn graph_of(alloc: Global, rows: &[&[u32]]) -> Result<Digraph, AllocError> {
     let mut graph = Digraph::new(alloc);
     for row in rows {
-        graph.node()?;
-        for to in *row {
-            if graph.len() > 0 {
-                graph.edge(*to)?;
-            }
-        }
+        add(&mut graph, *row)?;
     }
+    Ok(graph)
+}
+
+// A chain of so many nodes, which leads to a cycle, and behind it a cycle that leads to the chain.
+fn chain_between_cycles(alloc: Global, len: u32) -> Result<Digraph, AllocError> {
+    let mut graph = Digraph::new(alloc);
+    for node in 0..len {
+        add(&mut graph, &[node + 1])?;
+    }
+    add(&mut graph, &[len])?;
+    add(&mut graph, &[0, len.saturating_add(1)])?;
     Ok(graph)
 }
 
@@ -32,13 +47,11 @@ fn no_nodes_have_no_cycle(rt: HostRuntime) {
 
 #[test]
 fn successors_stand_in_order(rt: HostRuntime) {
-    let graph = graph_of(rt.alloc(), &[&[1, 7, 1], &[], &[0]]).expect(&rt, "a graph");
-    assert_eq!(rt; graph.len(), 3);
     let rows: [&[u32]; 3] = [&[1, 7, 1], &[], &[0]];
+    let graph = graph_of(rt.alloc(), &rows).expect(&rt, "a graph");
+    assert_eq!(rt; graph.len(), 3);
     for node in 0..3 {
-        if node < graph.len() {
-            assert!(rt; graph.successors(node) == rows[node], "row {node}");
-        }
+        assert!(rt; graph.successors(node) == rows[node], "row {node}");
     }
 }
 
@@ -70,11 +83,46 @@ fn the_first_on_a_cycle_is_found(rt: HostRuntime) {
     ];
     for (case, (rows, among, first)) in cases.iter().enumerate() {
         let graph = graph_of(rt.alloc(), *rows).expect(&rt, "a graph");
-        if among.len() == graph.len() {
-            let found = graph
-                .first_on_cycle(rt.alloc(), *among)
-                .expect(&rt, "an answer");
-            assert!(rt; found == *first, "case {case}");
-        }
+        assert_eq!(rt; among.len(), graph.len());
+        let found = graph
+            .first_on_cycle(rt.alloc(), *among)
+            .expect(&rt, "an answer");
+        assert!(rt; found == *first, "case {case}");
     }
+}
+
+#[test]
+fn a_long_chain_between_cycles_is_passed(rt: HostRuntime) {
+    let graph = chain_between_cycles(rt.alloc(), 100_000).expect(&rt, "a graph");
+    assert_eq!(rt; graph.len(), 100_002);
+    let mut among = vec![in rt.alloc(); true; 100_002].expect(&rt, "flags");
+    let found = graph
+        .first_on_cycle(rt.alloc(), &among)
+        .expect(&rt, "an answer");
+    assert!(rt; found == Some(100_000), "the cycle at the chain's end");
+    among[100_000] = false;
+    let found = graph
+        .first_on_cycle(rt.alloc(), &among)
+        .expect(&rt, "an answer");
+    assert!(rt; found == Some(100_001), "the cycle before the chain");
+    among[100_001] = false;
+    let found = graph
+        .first_on_cycle(rt.alloc(), &among)
+        .expect(&rt, "an answer");
+    assert!(rt; found == None, "the chain alone");
+}
+
+#[test]
+fn a_long_cycle_is_found(rt: HostRuntime) {
+    let mut graph = Digraph::new(rt.alloc());
+    for node in 0..1_000_000 {
+        add(&mut graph, &[node + 1]).expect(&rt, "a node");
+    }
+    add(&mut graph, &[0]).expect(&rt, "a node");
+    assert_eq!(rt; graph.len(), 1_000_001);
+    let among = vec![in rt.alloc(); true; 1_000_001].expect(&rt, "flags");
+    let found = graph
+        .first_on_cycle(rt.alloc(), &among)
+        .expect(&rt, "an answer");
+    assert!(rt; found == Some(0), "the whole graph is one cycle");
 }

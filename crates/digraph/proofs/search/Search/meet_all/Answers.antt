@@ -1,4 +1,4 @@
-use Rattle.std.proofs.Common.{◌≡◌, ◌<◌, ◌+◌, ◌∷◌, ◌++◌, [], length, get_or, take, sym, ap, ◌∙◌}
+use Rattle.std.proofs.Common.{get_or, take, sym, ap, ◌∙◌}
 use Rattle.std.proofs.lemmas.List.{take_more}
 use Rattle.digraph.specs.Met.{met_with, met_with_all}
 use Rattle.digraph.proofs.MetLaws.{met_push}
