@@ -1,0 +1,5 @@
+mod GapLaws
+mod Literals
+mod SetLaws
+mod SignLaws
+mod SizeLaws

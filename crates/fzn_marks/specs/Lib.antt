@@ -1,0 +1,7 @@
+pub mod Answers
+pub mod Gaps
+pub mod Marks
+pub mod Reading
+pub mod Sets
+pub mod Signs
+pub mod Sizes

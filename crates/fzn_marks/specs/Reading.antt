@@ -1,0 +1,39 @@
+-- What the readers of set literals answer.
+use Rattle.std.specs.Prelude.{Bool, List, [], ℤ}
+use Rattle.reading.specs.Readers.{Answer, nothing, pair, made, either, behind, listed, whole}
+use Rattle.fzn_syntax.specs.declared.kind.Kind.TheVariants as kinds
+use Rattle.fzn_syntax.specs.declared.word.Word.{Word}
+use Rattle.fzn_syntax.specs.Words.{is}
+use Rattle.fzn_syntax.specs.Reading.{sign_at, int_at}
+use Rattle.fzn_marks.specs.declared.index_set.IndexSet.{IndexSet}
+use Rattle.fzn_marks.specs.declared.literal.SetLiteral.{SetLiteral}
+use Rattle.fzn_marks.specs.declared.literal.SetLiteral.TheVariants as literals
+
+unfoldable pub range_at : List Word → Answer Word IndexSet
+range_at = made (λ p. record { lo = p.0; hi = p.1.1 }) (pair int_at (pair (sign_at kinds.DotDot) int_at))
+
+abbrev pub more_ints_at : List Word → Answer Word ℤ
+more_ints_at = behind (sign_at kinds.Comma) int_at
+
+unfoldable pub ints_at : List Word → Answer Word (List ℤ)
+ints_at = listed (is kinds.Comma) (sign_at kinds.Comma) int_at
+
+unfoldable pub some_ints_at : List Word → Answer Word (List ℤ)
+some_ints_at = either (is kinds.Int) ints_at (made (λ _. []) nothing)
+
+unfoldable pub set_at : List Word → Answer Word (List ℤ)
+set_at = made (λ p. p.1.0) (pair (sign_at kinds.LeftBrace) (pair some_ints_at (sign_at kinds.RightBrace)))
+
+unfoldable pub literal_at : List Word → Answer Word SetLiteral
+literal_at = either (is kinds.LeftBrace) (made (λ ns. literals.Set ns) set_at) (made (λ s. literals.Range s) range_at)
+
+abbrev pub more_literals_at : List Word → Answer Word SetLiteral
+more_literals_at = behind (sign_at kinds.Comma) literal_at
+
+unfoldable pub literals_at : List Word → Answer Word (List SetLiteral)
+literals_at = listed (is kinds.Comma) (sign_at kinds.Comma) literal_at
+
+unfoldable pub argument_at : List Word → Answer Word (List SetLiteral)
+argument_at =
+    made (λ p. p.1.1.0)
+    (pair (sign_at kinds.LeftParen) (pair (sign_at kinds.LeftBracket) (pair literals_at (pair (sign_at kinds.RightBracket) (sign_at kinds.RightParen)))))

@@ -1,0 +1,16 @@
+//! What annotations at a declaration mark for printing.
+#![tactic(auto)]
+
+mod gaps;
+mod index_set;
+mod literal;
+mod marks;
+mod reading;
+mod sign;
+
+pub use index_set::{IndexSet, IndexSets};
+pub use marks::{is_output_array, is_output_var};
+pub use reading::index_sets;
+
+#[cfg(test)]
+mod tests;
