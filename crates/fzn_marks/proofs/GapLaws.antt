@@ -1,5 +1,5 @@
 -- Integers that stand in order: which of them are all from the least to the greatest.
-use Rattle.std.proofs.Common.{◌≡◌, Ordering, Less, Equal, Greater, Bool, true, false, ℕ, zero, suc, ◌+◌, ◌-◌, ◌<◌, ◌≤◌, List, [], ◌∷◌, length, get_or, ℤ, pos, ◌+ℤ◌, ◌≤ℤ◌, ◌<ℤ◌, inl, inr, ◌⊎◌, Option, Some, None, refl, sym, ap, ◌∙◌, subst, arith}
+use Rattle.std.proofs.Common.{◌≡◌, Ordering, Less, Equal, Greater, false, ℕ, zero, suc, ◌+◌, ◌-◌, ◌<◌, ◌≤◌, List, length, get_or, ℤ, pos, ◌+ℤ◌, ◌≤ℤ◌, ◌<ℤ◌, inl, inr, ◌⊎◌, Option, Some, None, sym, ◌∙◌, subst, arith}
 use Rattle.std.specs.List.{Contains}
 use Rattle.std.specs.List.Sorted.{IsSorted, IsPermutation}
 use Rattle.std.specs.Option.{MatchOption}
@@ -66,12 +66,12 @@ found_to ns n zero gapless low high lt =
     let same : at ns 0 ≡ n = omega (arith, ints) in
     subst (Contains ns) same (contains_at ns 0 lt)
 found_to ns n (suc j) gapless low high lt = elim (le_or_above n (at ns j)) [
-    inl below ↦ found_to ns n j gapless low below (omega arith)
+  | inl below ↦ found_to ns n j gapless low below (omega arith)
   | inr above ↦ (let next : j + 1 ≡ suc j = omega arith in
-    let step : at ns (suc j) ≤ℤ (at ns j +ℤ pos 1) = subst (λ m. at ns m ≤ℤ (at ns j +ℤ pos 1)) next (gapless j (omega arith)) in
-    let same : at ns (suc j) ≡ n = omega (arith, ints) in
-    subst (Contains ns) same (contains_at ns (suc j) lt))
-  ]
+      let step : at ns (suc j) ≤ℤ (at ns j +ℤ pos 1) = subst (λ m. at ns m ≤ℤ (at ns j +ℤ pos 1)) next (gapless j (omega arith)) in
+      let same : at ns (suc j) ≡ n = omega (arith, ints) in
+      subst (Contains ns) same (contains_at ns (suc j) lt))
+]
 
 -- what the list holds lies between its ends
 within_ends : (ns : List ℤ) (n : ℤ) → IsSorted int_cmp ns → Contains ns n → (at ns 0 ≤ℤ n) × (n ≤ℤ at ns (length ns - 1))
@@ -85,10 +85,13 @@ pub whole : (ns : List ℤ) (s : IndexSet) → IsSorted int_cmp ns → IsGapless
 whole ns s sorted gapless some lo hi =
     let end = length ns - 1 in
     let inside : (n : ℤ) → Contains ns n → (at ns 0 ≤ℤ n) × (n ≤ℤ at ns end) = λ n there. within_ends ns n sorted there in
-    let order : at ns 0 ≤ℤ at ns end = ordered ns 0 end sorted (omega arith) (omega arith) in
-    (subst (λ v. v ≤ℤ s.hi) lo (subst (λ v. at ns 0 ≤ℤ v) hi order),
-     λ n. ((λ there. (subst (λ v. v ≤ℤ n) lo (inside n there).0, subst (λ v. n ≤ℤ v) hi (inside n there).1)),
-          (λ between. found_to ns n end gapless (subst (λ v. v ≤ℤ n) (sym lo) between.0) (subst (λ v. n ≤ℤ v) (sym hi) between.1) (omega arith))))
+    let order : at ns 0 ≤ℤ at ns end = ordered ns 0 end sorted (omega arith) (omega arith) in (
+      subst (λ v. v ≤ℤ s.hi) lo (subst (λ v. at ns 0 ≤ℤ v) hi order),
+      λ n. (
+        (λ there. (subst (λ v. v ≤ℤ n) lo (inside n there).0, subst (λ v. n ≤ℤ v) hi (inside n there).1)),
+        (λ between. found_to ns n end gapless (subst (λ v. v ≤ℤ n) (sym lo) between.0) (subst (λ v. n ≤ℤ v) (sym hi) between.1) (omega arith)),
+      ),
+    )
 
 -- ---- a gap
 
@@ -97,10 +100,10 @@ missing : (ns : List ℤ) (k : ℕ) → IsSorted int_cmp ns → k + 1 < length n
 missing ns k sorted lt gap there =
     let place = place_of ns (at ns k +ℤ pos 1) there in
     elim (cases_lt k place.0) [
-      inl past ↦ (let above : at ns (k + 1) ≤ℤ at ns place.0 = ordered ns (k + 1) place.0 sorted (omega arith) place.1 in
-      absurd (omega (arith, ints, place.2)))
-    | inr front ↦ (let below : at ns place.0 ≤ℤ at ns k = ordered ns place.0 k sorted front (omega arith) in
-      absurd (omega (arith, ints, place.2)))
+      | inl past ↦ (let above : at ns (k + 1) ≤ℤ at ns place.0 = ordered ns (k + 1) place.0 sorted (omega arith) place.1 in
+          absurd (omega (arith, ints, place.2)))
+      | inr front ↦ (let below : at ns place.0 ≤ℤ at ns k = ordered ns place.0 k sorted front (omega arith) in
+          absurd (omega (arith, ints, place.2)))
     ]
 
 gap_not_whole : (ns : List ℤ) (k : ℕ) → IsSorted int_cmp ns → k + 1 < length ns → (at ns k +ℤ pos 1) <ℤ at ns (k + 1) → IsNotWhole ns
@@ -125,9 +128,9 @@ none_not_whole ns none s is =
 
 same_whole : (old new : List ℤ) (s : IndexSet) → IsPermutation old new → IsWhole new s → IsWhole old s
 same_whole old new s moved is = (
-    is.0,
-    λ n. ((λ there. (is.1 n).0 (Contains-permutation old new n moved there)), (λ between. Contains-permutation new old n (IsPermutation-sym old new moved) ((is.1 n).1 between))),
-  )
+  is.0,
+  λ n. ((λ there. (is.1 n).0 (Contains-permutation old new n moved there)), (λ between. Contains-permutation new old n (IsPermutation-sym old new moved) ((is.1 n).1 between))),
+)
 
 -- ---- the answer
 

@@ -1,8 +1,8 @@
 -- The readers of set literals read their languages.
 use Rattle.std.proofs.Common.{◌≡◌, ℕ, ℤ, Bool, true, false, ◌||◌, ◌==◌, List, ◌++◌, Some, ◌⊎◌, inl, inr, refl}
-use Rattle.reading.specs.Language.{◌⨾◌, One, Listed, MaybeListed}
+use Rattle.reading.specs.Language.{◌⨾◌, Listed, MaybeListed}
 use Rattle.reading.specs.Readers.{begins, none}
-use Rattle.reading.proofs.Laws.{Stops, stops_none, Reads}
+use Rattle.reading.proofs.Laws.{Reads}
 use Rattle.reading.proofs.Joins.{Both, pair_reads, then_reads, made_reads}
 use Rattle.reading.proofs.Loops.{Loops}
 use Rattle.reading.proofs.Lists.{behind_loops, listed_reads, maybe_listed_reads}

@@ -1,10 +1,12 @@
 -- What set literals count as, and what the words of an argument spell.
-use Rattle.std.proofs.Common.{◌≡◌, ◌==◌, Bool, true, false, ℕ, zero, suc, ◌+◌, ◌<◌, ◌≤◌, List, [], ◌∷◌, ◌++◌, length, get_or, ℤ, Option, Some, None, Result, Ok, Err, refl, sym, ap, ◌∙◌, subst, arith}
+use Rattle.std.proofs.Common.{◌≡◌, ◌↔◌, ◌≤ℤ◌, ◌==◌, Bool, true, false, ℕ, zero, suc, ◌<◌, List, [], ◌∷◌, ◌++◌, length, get_or, ℤ, Option, Some, None, Result, Ok, Err, refl, sym, ap, ◌∙◌, subst, arith}
 use Rattle.std.specs.Option.{MatchOption}
 use Rattle.std.specs.Result.{IfOk}
 use Rattle.std.proofs.lemmas.List.{append-nil, nil_from_length}
 use Rattle.std.proofs.lemmas.Bool.{eqb-true}
-use Rattle.reading.proofs.Laws.{okay_is, never_both, stops_none, Reads}
+use Rattle.std.proofs.lemmas.Int.{ints}
+use Rattle.fzn_syntax.specs.declared.annotation.Annotation.{Annotation}
+use Rattle.reading.proofs.Laws.{okay_is, never_both, stops_none}
 use Rattle.reading.specs.Readers.{none}
 use Rattle.fzn_syntax.specs.declared.word.Word.{Word}
 use Rattle.fzn_marks.specs.declared.index_set.IndexSet.{IndexSet}
@@ -13,7 +15,8 @@ use Rattle.fzn_marks.specs.declared.literal.SetLiteral.TheVariants as literals
 use Rattle.fzn_marks.specs.Gaps.{IsNotWhole}
 use Rattle.fzn_marks.specs.Reading.{argument_at}
 use Rattle.fzn_marks.specs.Answers.{IsUnread, HasNoSets, IsNotSet, CountAsFew, HasNoEnds}
-use Rattle.fzn_marks.specs.Sets.{IsArgument, IsWhole, CountsAs, CountAs, AreIndexSets}
+use Rattle.fzn_marks.specs.Sets.{IsArgument, IsWhole, CountsAs, CountAs, AreIndexSets, GiveIndexSets, HasIndexSets, HasNoIndexSets, HasRightSets}
+use Rattle.fzn_marks.specs.Sizes.{product_of}
 use Rattle.fzn_marks.proofs.Literals.{argument_reads}
 
 -- ---- the words
@@ -90,3 +93,58 @@ pub all_told : {E : Type 0} (ws : List Word) (ls : List SetLiteral) (r : Result 
     → IfOk r (λ found. MatchOption found (HasNoEnds ls) (CountAsFew ls)) → IfOk r (λ found. MatchOption found (HasNoSets ws) (AreIndexSets ws))
 all_told ws ls (Ok found) d h = read_told ws ls found d h
 all_told ws ls (Err e) d h = tt
+
+-- ---- one answer
+
+same_ends : (s t : IndexSet) → s.lo ≡ t.lo → s.hi ≡ t.hi → s ≡ t
+same_ends s t lo hi =
+    let low : s ≡ record { lo = t.lo; hi = s.hi } = ap (λ x. record { lo = x; hi = s.hi }) lo in
+    let high : record { lo = t.lo; hi = s.hi } ≡ t = ap (λ x. record { lo = t.lo; hi = x }) hi in
+    low ∙ high
+
+-- the ends of a whole set are among its integers, so another's ends are no nearer
+ends_apart : (ns : List ℤ) (s t : IndexSet) → IsWhole ns s → IsWhole ns t → (t.lo ≤ℤ s.lo) × (s.hi ≤ℤ t.hi)
+ends_apart ns s t one other =
+    let low = (one.1 s.lo).1 (omega (arith, ints), one.0) in
+    let high = (one.1 s.hi).1 (one.0, omega (arith, ints)) in
+    (((other.1 s.lo).0 low).0, ((other.1 s.hi).0 high).1)
+
+one_whole : (ns : List ℤ) (s t : IndexSet) → IsWhole ns s → IsWhole ns t → s ≡ t
+one_whole ns s t one other =
+    let there = ends_apart ns s t one other in
+    let back = ends_apart ns t s other one in
+    let lo : s.lo ≡ t.lo = omega (arith, ints, there.0, back.0) in
+    let hi : s.hi ≡ t.hi = omega (arith, ints, there.1, back.1) in
+    same_ends s t lo hi
+
+one_range : (l : SetLiteral) (s t : IndexSet) → CountsAs l s → CountsAs l t → s ≡ t
+one_range (literals.Range r) s t one other = one ∙ sym other
+one_range (literals.Set ns) s t one other = one_whole ns s t one other
+
+one_count : (ls : List SetLiteral) (ss ts : List IndexSet) → CountAs ls ss → CountAs ls ts → ss ≡ ts
+one_count [] [] [] one other = refl
+one_count [] [] (t ∷ ts) one other = absurd other
+one_count [] (s ∷ ss) ts one other = absurd one
+one_count (l ∷ ls) [] ts one other = absurd one
+one_count (l ∷ ls) (s ∷ ss) [] one other = absurd other
+one_count (l ∷ ls) (s ∷ ss) (t ∷ ts) one other =
+    let first : s ≡ t = one_range l s t one.0 other.0 in
+    ap (λ (r : IndexSet). r ∷ ss) first ∙ ap (λ (rs : List IndexSet). t ∷ rs) (one_count ls ss ts one.1 other.1)
+
+one_are : (ws : List Word) (ss ts : List IndexSet) → AreIndexSets ws ss → AreIndexSets ws ts → ss ≡ ts
+one_are ws ss ts one other =
+    let same : other.literals ≡ one.literals = one_argument ws other.literals one.literals other.written one.written in
+    one_count one.literals ss ts one.ends (subst (λ (ls : List SetLiteral). CountAs ls ts) same other.ends)
+
+one_give : (arguments : Option (List Word)) (ss ts : List IndexSet) → GiveIndexSets arguments ss → GiveIndexSets arguments ts → ss ≡ ts
+one_give (Some ws) ss ts one other = one_are ws ss ts one other
+one_give None ss ts one other = absurd one
+
+pub none_right : (a : Annotation) (length : ℕ) → HasNoIndexSets a → (false ≡ true) ↔ HasRightSets a length
+none_right a length none = (λ e. absurd cc, λ right. absurd (none right.0 right.1))
+
+pub some_right : (a : Annotation) (length : ℕ) (sets : List IndexSet) (b : Bool) → HasIndexSets a sets → (b ≡ true) ↔ (product_of sets ≡ length) → (b ≡ true) ↔ HasRightSets a length
+some_right a length sets b has told = (
+  λ e. (sets, has, told.0 e),
+  λ right. told.1 (ap product_of (one_give a.arguments sets right.0 has right.1) ∙ right.2),
+)

@@ -5,7 +5,6 @@ use Rattle.std.proofs.lemmas.Bool.{eq-eqb, eqb-true}
 use Rattle.fzn_lex.specs.declared.words.What.{What}
 use Rattle.fzn_lex.specs.declared.words.What.TheVariants as what
 use Rattle.fzn_syntax.specs.declared.kind.Kind.{Kind}
-use Rattle.fzn_syntax.specs.declared.kind.Kind.TheVariants as kinds
 use Rattle.fzn_syntax.specs.Words.{code, name_kind, kind_by}
 use Rattle.fzn_marks.specs.Signs.{kind_of, is_sign}
 

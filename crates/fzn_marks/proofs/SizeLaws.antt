@@ -1,8 +1,8 @@
 -- Products of sizes.
-use Rattle.std.proofs.Common.{◌≡◌, ◌==◌, ◌↔◌, Bool, true, ℕ, zero, suc, ◌+◌, ◌*◌, ◌<◌, ◌≤◌, List, [], ◌∷◌, ◌++◌, length, get_or, take, refl, sym, ap, ◌∙◌, subst, arith}
+use Rattle.std.proofs.Common.{◌≡◌, ◌==◌, ◌↔◌, Bool, true, ℕ, zero, suc, ◌+◌, ◌*◌, ◌<◌, ◌≤◌, List, [], ◌∷◌, ◌++◌, length, get_or, take, sym, ap, ◌∙◌, arith}
 use Rattle.std.specs.List.{All, Any}
-use Rattle.std.proofs.Math.Nat.{mul-le-mul_left, mul_assoc, mul-one, mul-zero, zero-mul}
-use Rattle.std.proofs.lemmas.List.{take_more, take_all, get_or_default}
+use Rattle.std.proofs.Math.Nat.{mul-le-mul_left, mul_assoc, mul-zero, zero-mul}
+use Rattle.std.proofs.lemmas.List.{take_more}
 use Rattle.std.proofs.lemmas.Bool.{eqb-true, eq-eqb}
 use Rattle.fzn_marks.specs.declared.index_set.IndexSet.{IndexSet}
 use Rattle.fzn_marks.specs.Sizes.{size_of, product_of, IsEmpty, IsFilled}

@@ -1,5 +1,5 @@
 -- Gaps among integers that stand in order.
-use Rattle.std.specs.Prelude.{◌≡◌, ℕ, ◌+◌, ◌<◌, List, length, ℤ, pos, ◌+ℤ◌, ◌≤ℤ◌, slice_index_or}
+use Rattle.std.specs.Prelude.{ℕ, ◌+◌, ◌<◌, List, length, ℤ, pos, ◌+ℤ◌, ◌≤ℤ◌, slice_index_or}
 use Rattle.fzn_marks.specs.declared.index_set.IndexSet.{IndexSet}
 use Rattle.fzn_marks.specs.Sets.{IsWhole}
 

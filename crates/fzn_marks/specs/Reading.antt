@@ -1,6 +1,6 @@
 -- What the readers of set literals answer.
-use Rattle.std.specs.Prelude.{Bool, List, [], ℤ}
-use Rattle.reading.specs.Readers.{Answer, nothing, pair, made, either, behind, listed, whole}
+use Rattle.std.specs.Prelude.{List, [], ℤ}
+use Rattle.reading.specs.Readers.{Answer, nothing, pair, made, either, behind, listed}
 use Rattle.fzn_syntax.specs.declared.kind.Kind.TheVariants as kinds
 use Rattle.fzn_syntax.specs.declared.word.Word.{Word}
 use Rattle.fzn_syntax.specs.Words.{is}

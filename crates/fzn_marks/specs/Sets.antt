@@ -1,5 +1,5 @@
 -- The index sets that an annotation gives: the grammar of its argument, and what each set counts as.
-use Rattle.std.specs.Prelude.{◌≡◌, ◌↔◌, ◌≤◌, List, [], ◌∷◌, length, ℤ, ◌≤ℤ◌, Option, Some, None}
+use Rattle.std.specs.Prelude.{◌≡◌, ◌↔◌, ◌≤◌, ℕ, List, [], ◌∷◌, length, ℤ, ◌≤ℤ◌, Option, Some, None}
 use Rattle.std.specs.List.{Contains}
 use Rattle.reading.specs.Language.{◌⨾◌, Listed, MaybeListed}
 use Rattle.fzn_syntax.specs.declared.kind.Kind.TheVariants as kinds
@@ -9,6 +9,7 @@ use Rattle.fzn_syntax.specs.Grammar.{Sign, IsInt}
 use Rattle.fzn_marks.specs.declared.index_set.IndexSet.{IndexSet}
 use Rattle.fzn_marks.specs.declared.literal.SetLiteral.{SetLiteral}
 use Rattle.fzn_marks.specs.declared.literal.SetLiteral.TheVariants as literals
+use Rattle.fzn_marks.specs.Sizes.{product_of}
 
 -- Int '..' Int | '{' [Int {',' Int}*] '}'
 abbrev pub IsSetLiteral : SetLiteral → List Word → Type 0
@@ -53,3 +54,7 @@ HasIndexSets a sets = GiveIndexSets a.arguments sets
 -- the annotation's arguments give no index sets
 abbrev pub HasNoIndexSets : Annotation → Type 0
 HasNoIndexSets a = (sets : List IndexSet) → HasIndexSets a sets → ⊥
+
+-- the annotation's arguments give index sets whose sizes multiplied are this length
+abbrev pub HasRightSets : Annotation → ℕ → Type 0
+HasRightSets a length = (sets : List IndexSet) × HasIndexSets a sets × (product_of sets ≡ length)

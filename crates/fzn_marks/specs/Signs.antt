@@ -1,5 +1,5 @@
 -- Signs by their tokens.
-use Rattle.std.specs.Prelude.{ℕ, Bool, true, false}
+use Rattle.std.specs.Prelude.{Bool, true, false}
 use Rattle.fzn_lex.specs.declared.words.What.{What}
 use Rattle.fzn_lex.specs.declared.words.What.TheVariants as what
 use Rattle.fzn_syntax.specs.declared.kind.Kind.{Kind}

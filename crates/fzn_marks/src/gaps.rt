@@ -24,11 +24,7 @@ fn whole_of_sorted(values: &[i64]) -> Option<IndexSet>
         return None;
     }
     let ends = ends_of(values);
-    if is_gapless(values) {
-        Some(ends)
-    } else {
-        None
-    }
+    if is_gapless(values) { Some(ends) } else { None }
 }
 
 // The first and the last.

@@ -10,7 +10,7 @@ mod sign;
 
 pub use index_set::{IndexSet, IndexSets};
 pub use marks::{is_output_array, is_output_var};
-pub use reading::index_sets;
+pub use reading::{index_sets, right_sets};
 
 #[cfg(test)]
 mod tests;

@@ -1,7 +1,7 @@
 //! The index sets that an annotation gives.
 ghost use Rattle.std.specs.Prelude.{◌≡◌, ◌↔◌, ◌≤◌, List, length, IfOk, IsTrue, MatchOption};
 ghost use Rattle.fzn_marks.specs.Answers.{IsUnread, HasNoEnds, CountAsFew, HasNoSets, IsNotSet};
-ghost use Rattle.fzn_marks.specs.Sets.{IsArgument, CountsAs, AreIndexSets, HasIndexSets, HasNoIndexSets};
+ghost use Rattle.fzn_marks.specs.Sets.{IsArgument, CountsAs, AreIndexSets, HasIndexSets, HasNoIndexSets, HasRightSets};
 
 use crate::gaps::whole_of;
 use crate::index_set::{IndexSet, IndexSets};
@@ -20,6 +20,16 @@ pub fn index_sets(alloc: Global, annotation: &Annotation) -> Result<Option<Index
     match &annotation.arguments {
         None => Ok(None),
         Some(words) => sets_of(alloc, words.as_slice()),
+    }
+}
+
+/// Whether the annotation's argument gives the index sets of an array of this length.
+pub fn right_sets(alloc: Global, annotation: &Annotation, length: u64) -> Result<bool, AllocError>
+    ensures { IfOk result (λ right. IsTrue right ↔ HasRightSets annotation.now length) }
+{
+    match index_sets(alloc, annotation)? {
+        None => Ok(false),
+        Some(sets) => Ok(sets.count_is(length)),
     }
 }
 

@@ -1,5 +1,5 @@
 //! Annotations at declarations.
-use crate::{IndexSet, index_sets, is_output_array, is_output_var};
+use crate::{IndexSet, index_sets, is_output_array, is_output_var, right_sets};
 use fzn_lex::lex;
 use fzn_syntax::{Annotation, Declaration, Items, parse};
 use std::alloc::Global;
@@ -30,7 +30,11 @@ fn marks_are_told_by_their_names(rt: HostRuntime) {
         ("var int: x :: output_var; solve satisfy;", true, false),
         ("var int: x :: output_var(1); solve satisfy;", true, false),
         ("var int: x :: output_array; solve satisfy;", false, true),
-        ("var int: x :: output_array([1..2]); solve satisfy;", false, true),
+        (
+            "var int: x :: output_array([1..2]); solve satisfy;",
+            false,
+            true,
+        ),
         ("var int: x :: output_vars; solve satisfy;", false, false),
         ("var int: x :: output; solve satisfy;", false, false),
         ("var int: x :: a(output_var); solve satisfy;", false, false),
@@ -47,17 +51,30 @@ fn marks_are_told_by_their_names(rt: HostRuntime) {
 fn index_sets_are_read(rt: HostRuntime) {
     let cases: [(&str, &[IndexSet]); 7] = [
         ("var int: x :: a([1..3]); solve satisfy;", &[ends(1, 3)]),
-        ("var int: x :: a([1..3,0..-1]); solve satisfy;", &[ends(1, 3), ends(0, -1)]),
+        (
+            "var int: x :: a([1..3,0..-1]); solve satisfy;",
+            &[ends(1, 3), ends(0, -1)],
+        ),
         ("var int: x :: a([5..2]); solve satisfy;", &[ends(5, 2)]),
         ("var int: x :: a([{2,1,2}]); solve satisfy;", &[ends(1, 2)]),
-        ("var int: x :: a([{-3},{3,1,2}]); solve satisfy;", &[ends(-3, -3), ends(1, 3)]),
+        (
+            "var int: x :: a([{-3},{3,1,2}]); solve satisfy;",
+            &[ends(-3, -3), ends(1, 3)],
+        ),
         (
             "var int: x :: a([-4611686018427387904..4611686018427387904]); solve satisfy;",
             &[ends(-4611686018427387904, 4611686018427387904)],
         ),
         (
             "var int: x :: a([1..1,2..2,3..3,4..4,5..5,{6}]); solve satisfy;",
-            &[ends(1, 1), ends(2, 2), ends(3, 3), ends(4, 4), ends(5, 5), ends(6, 6)],
+            &[
+                ends(1, 1),
+                ends(2, 2),
+                ends(3, 3),
+                ends(4, 4),
+                ends(5, 5),
+                ends(6, 6),
+            ],
         ),
     ];
     for (text, wanted) in cases {
@@ -127,5 +144,7 @@ fn sizes_multiplied_are_the_length(rt: HostRuntime) {
         let found = index_sets(rt.alloc(), annotation).expect(&rt, "memory");
         let sets = found.expect(&rt, "index sets");
         assert!(rt; sets.count_is(length) == is, "{text} {length}");
+        let right = right_sets(rt.alloc(), annotation, length).expect(&rt, "memory");
+        assert!(rt; right == is, "{text} {length}");
     }
 }

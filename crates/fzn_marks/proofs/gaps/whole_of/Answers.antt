@@ -1,4 +1,3 @@
-use Rattle.std.proofs.Common.{subst}
 use Rattle.fzn_marks.proofs.GapLaws.{told}
 use Rattle.fzn_marks.proofs.gaps.whole_of.Goals as goal
 

@@ -1,5 +1,5 @@
 use Rattle.std.proofs.Common.{◌<◌, length, refl, rules}
-use Rattle.fzn_marks.proofs.GapLaws.{whole, not_gapless, none_not_whole}
+use Rattle.fzn_marks.proofs.GapLaws.{whole, not_gapless}
 use Rattle.fzn_marks.proofs.gaps.whole_of_sorted.Goals as goal
 
 pub returns-then-is_gapless : goal.returns-then-is_gapless

@@ -1,5 +1,4 @@
-use Rattle.std.proofs.Common.{◌≡◌, ◌+◌, ◌*◌, ◌<◌, ◌≤◌, take, arith}
-use Rattle.fzn_marks.specs.Sizes.{product_of}
+use Rattle.std.proofs.Common.{◌+◌, ◌*◌, ◌<◌, arith}
 use Rattle.fzn_marks.proofs.SizeLaws.{product_next, too_great, fits_product}
 use Rattle.fzn_marks.proofs.index_set.product_is.Goals as goal
 

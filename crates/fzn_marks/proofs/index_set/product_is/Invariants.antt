@@ -1,5 +1,5 @@
 -- The sizes so far are multiplied.
-use Rattle.std.proofs.Common.{◌≡◌, ◌<◌, ◌≤◌, take}
+use Rattle.std.proofs.Common.{◌≡◌, ◌<◌, take}
 use Rattle.fzn_marks.specs.Sizes.{product_of}
 use Rattle.fzn_marks.proofs.index_set.product_is.Given as goal
 

@@ -1,5 +1,3 @@
-use Rattle.std.proofs.Common.{sym, ap}
-use Rattle.fzn_syntax.specs.Words.{kind_by}
 use Rattle.fzn_marks.proofs.SignLaws.{int_told, int_is}
 use Rattle.fzn_marks.proofs.sign.is_int.Goals as goal
 
