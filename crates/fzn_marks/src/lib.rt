@@ -5,12 +5,12 @@ mod gaps;
 mod index_set;
 mod literal;
 mod marks;
-mod reading;
+mod sets;
 mod sign;
 
 pub use index_set::{IndexSet, IndexSets};
 pub use marks::{is_output_array, is_output_var};
-pub use reading::{index_sets, right_sets};
+pub use sets::{index_sets, right_sets};
 
 #[cfg(test)]
 mod tests;

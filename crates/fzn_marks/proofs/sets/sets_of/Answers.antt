@@ -1,5 +1,5 @@
 use Rattle.fzn_marks.proofs.SetLaws.{all_told, unread_none}
-use Rattle.fzn_marks.proofs.reading.sets_of.Goals as goal
+use Rattle.fzn_marks.proofs.sets.sets_of.Goals as goal
 
 pub returns-in-None : goal.returns-in-None
 returns-in-None c = unread_none c.args.words.now (rw c.in-None.is at c.in_ok-argument_of.ensures)

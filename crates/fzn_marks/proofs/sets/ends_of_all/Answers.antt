@@ -5,7 +5,7 @@ use Rattle.std.proofs.lemmas.Iterator.Consumers.{YieldsList-turn, YieldsList-end
 use Rattle.fzn_marks.specs.declared.literal.SetLiteral.{SetLiteral}
 use Rattle.fzn_marks.specs.Sets.{CountAs}
 use Rattle.fzn_marks.proofs.SetLaws.{too_many, count_push, count_length, none_counts}
-use Rattle.fzn_marks.proofs.reading.ends_of_all.Goals as goal
+use Rattle.fzn_marks.proofs.sets.ends_of_all.Goals as goal
 
 pub returns-then-len-gt-MOST : goal.returns-then-len-gt-MOST
 returns-then-len-gt-MOST c =

@@ -1,5 +1,5 @@
 use Rattle.fzn_marks.proofs.SetLaws.{end_told, more_told, argument_stuck}
-use Rattle.fzn_marks.proofs.reading.argument_of.Goals as goal
+use Rattle.fzn_marks.proofs.sets.argument_of.Goals as goal
 
 pub returns-then-is_empty : goal.returns-then-is_empty
 returns-then-is_empty c = end_told c.args.words.now c.in-Ok.literals c.in-Ok.rest.now c.is_empty.result c.in-Ok.ensures c.is_empty.ensures c.if-is_empty.true

@@ -1,5 +1,5 @@
 use Rattle.fzn_marks.proofs.SetLaws.{none_right, some_right}
-use Rattle.fzn_marks.proofs.reading.right_sets.Goals as goal
+use Rattle.fzn_marks.proofs.sets.right_sets.Goals as goal
 
 pub returns-in-None : goal.returns-in-None
 returns-in-None c = none_right c.args.annotation.now c.args.length (rw c.in-None.is at c.in_ok-index_sets.ensures)
