@@ -1,0 +1,87 @@
+-- The first declaration at fault.
+use Rattle.std.proofs.Common.{◌≡◌, ◌↔◌, ℕ, zero, suc, ◌<◌, ◌≤◌, ◌+◌, Bool, true, false, List, [], ◌∷◌, length, get_or, map, slice_get, Option, None, Some, MatchOption, IsTrue, refl, sym, ap, ◌∙◌, subst, arith, inl, inr, ◌⊎◌}
+use Rattle.std.proofs.lemmas.Option.{slice_get_within, slice_get-get_or}
+use Rattle.digraph.specs.Cycle.{IsAskedOnCycle, HasNoneOnCycle, IsFirstOnCycle}
+use Rattle.fzn_syntax.specs.declared.declaration.Declaration.{Declaration}
+use Rattle.fzn_scope.specs.Names.{identifier_of}
+use Rattle.fzn_declared.specs.declared.fault.ItemFault.{ItemFault}
+use Rattle.fzn_declared.specs.declared.fault.ItemFault.TheVariants.{FloatOrSet, Wrong}
+use Rattle.fzn_declared.specs.Declares.{DeclaresFloatOrSet}
+use Rattle.fzn_declared.specs.Right.{IsRight}
+use Rattle.fzn_declared.specs.Places.{graph_of}
+use Rattle.fzn_declared.specs.Faults.{is_constant, DependsOnItself, IsFaultIf, IsFaultAt, IsFineAt, IsFine, IsFirstFault, HaveOneFirst}
+
+-- what the search for cycles answers
+abbrev pub Cyclic : List Declaration → Option ℕ → Type 0
+Cyclic ds first = MatchOption first (HasNoneOnCycle (graph_of ds) (map is_constant ds)) (IsFirstOnCycle (graph_of ds) (map is_constant ds))
+
+-- what asks whether a declaration depends on itself may be asked otherwise
+same_fault : (P Q : Type 0) (ds : List Declaration) (d : Declaration) (f : ItemFault) → (P → Q) → IsFaultIf P ds d f → IsFaultIf Q ds d f
+same_fault P Q ds d (FloatOrSet at) to h = h
+same_fault P Q ds d (Wrong at) to h = (h.0, elim h.1 [ inl wrong ↦ inl wrong | inr depends ↦ inr (to depends) ], h.2)
+
+there : (ds : List Declaration) (k : ℕ) (b : Bool) → slice_get (map is_constant ds) k ≡ Some b → (d : Declaration) × (slice_get ds k ≡ Some d)
+there [] k b e = absurd cc
+there (d ∷ ds) zero b e = (d, refl)
+there (d ∷ ds) (suc k) b e = there ds k b e
+
+-- what depends on itself is at fault
+dependent_is_faulty : (ds : List Declaration) (k : ℕ) → DependsOnItself ds k → IsFineAt ds k → ⊥
+dependent_is_faulty ds k depends fine =
+    let found = there ds k true depends.0 in
+    let plain : DeclaresFloatOrSet ds found.0 → ⊥ = λ h. fine (FloatOrSet (identifier_of found.0).at) (found.0, found.1, (h, refl)) in
+    fine (Wrong (identifier_of found.0).at) (found.0, found.1, (plain, inr depends, refl))
+
+-- behind declarations without fault, the first that depends on itself is the one that does
+depends_first : (ds : List Declaration) (first : Option ℕ) (k : ℕ) → Cyclic ds first → ((j : ℕ) → j < k → IsFineAt ds j) → DependsOnItself ds k → first ≡ Some k
+depends_first ds None k none fine depends = absurd (none k depends)
+depends_first ds (Some c) k h fine depends =
+    let late : c < k → ⊥ = λ lt. dependent_is_faulty ds c h.0 (fine c lt) in
+    let early : k < c → ⊥ = λ lt. h.1 k lt depends in
+    let is : c ≡ k = omega (arith, late, early) in
+    ap Some is
+
+first_depends : (ds : List Declaration) (first : Option ℕ) (k : ℕ) → Cyclic ds first → first ≡ Some k → DependsOnItself ds k
+first_depends ds first k h is = let there : Cyclic ds (Some k) = subst (Cyclic ds) is h in there.0
+
+-- the fault at this place is the first
+pub fault_is_first : (ds : List Declaration) (first : Option ℕ) (k : ℕ) (b : Bool) (d : Declaration) (f : ItemFault) → Cyclic ds first → ((j : ℕ) → j < k → IsFineAt ds j)
+    → slice_get ds k ≡ Some d → IsTrue b ↔ (first ≡ Some k) → IsFaultIf (IsTrue b) ds d f → IsFirstFault ds f
+fault_is_first ds first k b d f cyclic fine at here h =
+    (k, (d, at, same_fault (IsTrue b) (DependsOnItself ds k) ds d f (λ t. first_depends ds first k cyclic (here.0 t)) h), fine)
+
+one_there : {X : Type 0} (xs : List X) (i : ℕ) (x y : X) → slice_get xs i ≡ Some x → slice_get xs i ≡ Some y → x ≡ y
+one_there [] i x y e f = absurd cc
+one_there (z ∷ zs) zero x y e f = cc
+one_there (z ∷ zs) (suc i) x y e f = one_there zs i x y e f
+
+-- nothing is wrong at this place
+pub place_is_fine : (ds : List Declaration) (first : Option ℕ) (k : ℕ) (b : Bool) (d : Declaration) → Cyclic ds first → ((j : ℕ) → j < k → IsFineAt ds j)
+    → slice_get ds k ≡ Some d → IsTrue b ↔ (first ≡ Some k) → ((f : ItemFault) → IsFaultIf (IsTrue b) ds d f → ⊥) → IsFineAt ds k
+place_is_fine ds first k b d cyclic fine at here none f h =
+    let same : h.0 ≡ d = one_there ds k h.0 d h.1 at in
+    let fault : IsFaultIf (DependsOnItself ds k) ds d f = subst (λ e. IsFaultIf (DependsOnItself ds k) ds e f) same h.2 in
+    none f (same_fault (DependsOnItself ds k) (IsTrue b) ds d f (λ depends. here.1 (depends_first ds first k cyclic fine depends)) fault)
+
+-- nothing is wrong behind the last declaration
+pub all_are_fine : (ds : List Declaration) (len : ℕ) → length ds ≤ len → ((j : ℕ) → j < len → IsFineAt ds j) → IsFine ds
+all_are_fine ds len all fine k f h = fine k (let within = slice_get_within ds k h.0 h.1 in omega (arith, within, all)) f h
+
+one_fault : (P : Type 0) (ds : List Declaration) (d : Declaration) (f g : ItemFault) → IsFaultIf P ds d f → IsFaultIf P ds d g → f ≡ g
+one_fault P ds d (FloatOrSet a) (FloatOrSet b) h i = ap FloatOrSet (h.1 ∙ sym i.1)
+one_fault P ds d (FloatOrSet a) (Wrong b) h i = absurd (i.0 h.0)
+one_fault P ds d (Wrong a) (FloatOrSet b) h i = absurd (h.0 i.0)
+one_fault P ds d (Wrong a) (Wrong b) h i = ap Wrong (h.2 ∙ sym i.2)
+
+pub one_first_fault : HaveOneFirst
+one_first_fault ds f g h i =
+    let late : i.0 < h.0 → ⊥ = λ lt. h.2 i.0 lt g i.1 in
+    let early : h.0 < i.0 → ⊥ = λ lt. i.2 h.0 lt f h.1 in
+    let same : i.0 ≡ h.0 = omega (arith, late, early) in
+    let other : IsFaultAt ds h.0 g = subst (λ k. IsFaultAt ds k g) same i.1 in
+    let one : other.0 ≡ h.1.0 = one_there ds h.0 other.0 h.1.0 other.1 h.1.1 in
+    one_fault (DependsOnItself ds h.0) ds h.1.0 f g h.1.2 (subst (λ d. IsFaultIf (DependsOnItself ds h.0) ds d g) one other.2)
+
+-- what is read at a place of a copy stands there
+pub item_at : {X : Type 0} (xs ys : List X) (k : ℕ) (x : X) → ys ≡ xs → k < length ys → x ≡ get_or ys k x → slice_get xs k ≡ Some x
+item_at xs ys k x same lt is = ap (λ l. slice_get l k) (sym same) ∙ slice_get-get_or ys k x lt ∙ ap Some (sym is)

@@ -1,0 +1,5 @@
+mod FoundLaws
+mod EdgeLaws
+mod PlaceLaws
+mod FaultLaws
+mod MarkLaws

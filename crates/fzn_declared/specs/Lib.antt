@@ -1,0 +1,10 @@
+pub mod Floats
+pub mod Found
+pub mod Values
+pub mod Declares
+pub mod Marks
+pub mod Right
+pub mod Places
+pub mod Edges
+pub mod Faults
+pub mod Goals

@@ -1,0 +1,73 @@
+-- Which declarations are right, floats and set variables aside.
+use Rattle.std.specs.Prelude.{◌≡◌, ℕ, ℤ, pos, ◌≤ℤ◌, List, length, MatchOption}
+use Rattle.std.specs.List.{All}
+use Rattle.fzn_syntax.specs.declared.declaration.IndexRange.{IndexRange}
+use Rattle.fzn_syntax.specs.declared.declaration.Declaration.{Declaration}
+use Rattle.fzn_syntax.specs.declared.declaration.Declaration.TheVariants as declarations
+use Rattle.fzn_syntax.specs.declared.declaration.Variable.{Variable}
+use Rattle.fzn_syntax.specs.declared.declaration.VariableArray.{VariableArray}
+use Rattle.fzn_syntax.specs.declared.expression.Basic.{Basic}
+use Rattle.fzn_syntax.specs.declared.expression.Basic.TheVariants as basics
+use Rattle.fzn_syntax.specs.declared.expression.Expression.{Expression}
+use Rattle.fzn_syntax.specs.declared.expression.Expression.TheVariants as expressions
+use Rattle.fzn_scope.specs.declared.base.Base.{Base}
+use Rattle.fzn_scope.specs.declared.typing.Reading.{Reading}
+use Rattle.fzn_scope.specs.declared.typing.Reading.TheVariants as readings
+use Rattle.fzn_scope.specs.Bases.{base_of_parameter, base_of_variable}
+use Rattle.fzn_scope.specs.Names.{IsNamed}
+use Rattle.fzn_scope.specs.Typing.{Fits, AllFit}
+use Rattle.fzn_declared.specs.Marks.{IsRightMark}
+
+-- the indices begin with 1 and end with 0 or above
+abbrev pub IsIndex : IndexRange → Type 0
+IsIndex r = (r.first ≡ pos 1) × (pos 0 ≤ℤ r.last)
+
+-- one literal or name that fits
+abbrev pub IsScalar : List Declaration → Reading → Base → Expression → Type 0
+IsScalar ds r base (expressions.Basic b) = Fits ds r base b
+IsScalar ds r base (expressions.List bs) = ⊥
+
+-- a list of so many literals or names that fit
+abbrev pub AreEntries : List Declaration → Reading → Base → ℤ → Expression → Type 0
+AreEntries ds r base last (expressions.Basic b) = ⊥
+AreEntries ds r base last (expressions.List bs) = (last ≡ pos (length bs)) × AllFit ds r base bs
+
+-- an array of parameters of this base type with this last index
+abbrev pub IsParameters : Base → ℤ → Declaration → Type 0
+IsParameters base last (declarations.ParameterArray a) = (base_of_parameter a.entries.element ≡ base) × (a.index.last ≡ last)
+IsParameters base last (declarations.Parameter p) = ⊥
+IsParameters base last (declarations.Variable v) = ⊥
+IsParameters base last (declarations.VariableArray a) = ⊥
+
+-- a declaration of this name is such an array
+abbrev pub NamesParameters : List Declaration → Base → ℤ → List ℕ → Type 0
+NamesParameters ds base last n = (d : Declaration) × IsNamed ds n d × IsParameters base last d
+
+-- the name of such an array
+abbrev pub IsArray : List Declaration → Base → ℤ → Basic → Type 0
+IsArray ds base last (basics.Name n) = NamesParameters ds base last n.name
+IsArray ds base last basics.True = ⊥
+IsArray ds base last basics.False = ⊥
+IsArray ds base last (basics.Number z) = ⊥
+IsArray ds base last (basics.Range b) = ⊥
+IsArray ds base last (basics.Set zs) = ⊥
+
+-- a list of so many constants, or the name of an array of so many parameters
+abbrev pub AreConstants : List Declaration → Base → ℤ → Expression → Type 0
+AreConstants ds base last (expressions.Basic b) = IsArray ds base last b
+AreConstants ds base last (expressions.List bs) = (last ≡ pos (length bs)) × AllFit ds readings.Constant base bs
+
+-- there is no value, or one that fits
+abbrev pub IsRightValue : List Declaration → Variable → Type 0
+IsRightValue ds v = MatchOption v.value (Unit {0}) (IsScalar ds readings.Entry (base_of_variable v.element))
+
+-- as many entries that fit as the last index says, and each mark for printing with index sets of as many places
+abbrev pub IsRightArray : List Declaration → VariableArray → Type 0
+IsRightArray ds a = IsIndex a.index × AreEntries ds readings.Entry (base_of_variable a.element) a.index.last a.value × All (IsRightMark a.index.last) a.annotations
+
+-- the declaration is right, floats and set variables aside, and whether it depends on itself
+abbrev pub IsRight : List Declaration → Declaration → Type 0
+IsRight ds (declarations.Parameter p) = IsScalar ds readings.Constant (base_of_parameter p.element) p.value
+IsRight ds (declarations.Variable v) = IsRightValue ds v
+IsRight ds (declarations.ParameterArray a) = IsIndex a.index × AreConstants ds (base_of_parameter a.entries.element) a.index.last a.entries.value
+IsRight ds (declarations.VariableArray a) = IsRightArray ds a

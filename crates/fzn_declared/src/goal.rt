@@ -1,0 +1,64 @@
+//! The fault of a solve item.
+ghost use Rattle.std.specs.Prelude.{◌≡◌, ◌↔◌, IsTrue, MatchOption, true, false};
+ghost use Rattle.fzn_scope.specs.declared.base.Base.TheVariants as bases;
+ghost use Rattle.fzn_scope.specs.Sorts.{sort, sort_of, Names};
+ghost use Rattle.fzn_declared.specs.Goals.{AimsAtFloatOrSet, IsRightGoal, IsSolveFault, IsSolveFine};
+
+use crate::fault::ItemFault;
+use crate::floats::names_float_or_set;
+use crate::found::found;
+use fzn_scope::{Base, Scope, Sort, sort_of};
+use fzn_syntax::{Declaration, Goal, Solve};
+
+fn aims_at_float_or_set(scope: &Scope<'_>, goal: &Goal) -> bool
+    ensures { IsTrue result ↔ AimsAtFloatOrSet scope.now goal.now }
+{
+    match goal {
+        Goal::Satisfy => false,
+        Goal::Minimize(name) => names_float_or_set(scope, name.name.as_bytes()),
+        Goal::Maximize(name) => names_float_or_set(scope, name.name.as_bytes()),
+    }
+}
+
+fn is_integer_variable(declaration: &Declaration) -> bool
+    ensures { IsTrue result ↔ (sort_of declaration.now ≡ sort bases.Int true false) }
+{
+    let variable = Sort {
+        base: Base::Int,
+        is_variable: true,
+        is_array: false,
+    };
+    sort_of(declaration) == variable
+}
+
+fn names_integer(scope: &Scope<'_>, name: &[u8]) -> bool
+    ensures { IsTrue result ↔ Names scope.now name.now (sort bases.Int true false) }
+{
+    match found(scope, name) {
+        None => false,
+        Some(declaration) => is_integer_variable(declaration),
+    }
+}
+
+fn is_right_goal(scope: &Scope<'_>, goal: &Goal) -> bool
+    ensures { IsTrue result ↔ IsRightGoal scope.now goal.now }
+{
+    match goal {
+        Goal::Satisfy => true,
+        Goal::Minimize(name) => names_integer(scope, name.name.as_bytes()),
+        Goal::Maximize(name) => names_integer(scope, name.name.as_bytes()),
+    }
+}
+
+/// What is wrong with the goal, at the word `solve`.
+pub fn solve_fault(scope: &Scope<'_>, solve: &Solve) -> Option<ItemFault>
+    ensures { MatchOption result (IsSolveFine scope.now solve.now) (IsSolveFault scope.now solve.now) }
+{
+    if aims_at_float_or_set(scope, &solve.goal) {
+        return Some(ItemFault::FloatOrSet { at: solve.at });
+    }
+    if !is_right_goal(scope, &solve.goal) {
+        return Some(ItemFault::Wrong { at: solve.at });
+    }
+    None
+}
