@@ -16,3 +16,6 @@ pub use fault::{ItemFault, first_fault, one_first};
 pub use floats::{has_float_or_set, is_float_or_set, names_float_or_set};
 pub use goal::solve_fault;
 pub use right::is_right;
+
+#[cfg(test)]
+mod tests;
