@@ -1,0 +1,4 @@
+mod Finds
+mod Firsts
+mod Named
+mod Sums

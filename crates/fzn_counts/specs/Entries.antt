@@ -1,0 +1,56 @@
+-- The entries of the arrays that constraints take.
+use Rattle.std.specs.Prelude.{ℕ, ℤ, pos, negsuc, Bool, List, length, Option, Some, None}
+use Rattle.std.specs.List.{find, sum_by}
+use Rattle.std.specs.Str.{bytes_eq}
+use Rattle.fzn_scope.specs.Names.{name_of}
+use Rattle.fzn_syntax.specs.declared.constraint.Constraint.{Constraint}
+use Rattle.fzn_syntax.specs.declared.declaration.Declaration.{Declaration}
+use Rattle.fzn_syntax.specs.declared.declaration.Declaration.TheVariants as declarations
+use Rattle.fzn_syntax.specs.declared.expression.Basic.{Basic}
+use Rattle.fzn_syntax.specs.declared.expression.Basic.TheVariants as basics
+use Rattle.fzn_syntax.specs.declared.expression.Expression.{Expression}
+use Rattle.fzn_syntax.specs.declared.expression.Expression.TheVariants as expressions
+
+-- a number as it is, or 0 where it is negative
+abbrev pub natural : ℤ → ℕ
+natural (pos n) = n
+natural (negsuc n) = 0
+
+-- the entries that an array is declared to have; no other declaration has any
+abbrev pub declared_entries : Declaration → ℕ
+declared_entries (declarations.Parameter p) = 0
+declared_entries (declarations.Variable v) = 0
+declared_entries (declarations.ParameterArray a) = natural a.index.last
+declared_entries (declarations.VariableArray a) = natural a.index.last
+
+abbrev pub is_named : List ℕ → Declaration → Bool
+is_named n d = bytes_eq (name_of d) n
+
+abbrev pub entries_where_declared : Option Declaration → ℕ
+entries_where_declared None = 0
+entries_where_declared (Some d) = declared_entries d
+
+-- the entries of what the name stands for
+abbrev pub named_entries : List Declaration → List ℕ → ℕ
+named_entries ds n = entries_where_declared (find (is_named n) ds)
+
+abbrev pub basic_entries : List Declaration → Basic → ℕ
+basic_entries ds basics.True = 0
+basic_entries ds basics.False = 0
+basic_entries ds (basics.Name n) = named_entries ds n.name
+basic_entries ds (basics.Number z) = 0
+basic_entries ds (basics.Range b) = 0
+basic_entries ds (basics.Set zs) = 0
+
+-- the entries of a list, or of the array that a name stands for
+abbrev pub expression_entries : List Declaration → Expression → ℕ
+expression_entries ds (expressions.Basic b) = basic_entries ds b
+expression_entries ds (expressions.List bs) = length bs
+
+-- those of all arguments of a constraint
+abbrev pub constraint_entries : List Declaration → Constraint → ℕ
+constraint_entries ds c = sum_by (expression_entries ds) c.arguments
+
+-- those of all constraints
+abbrev pub entries_of : List Declaration → List Constraint → ℕ
+entries_of ds cs = sum_by (constraint_entries ds) cs
