@@ -6,7 +6,7 @@ mod row;
 mod shape;
 
 pub use argument_type::ArgumentType;
-pub use row::{Row, row_of};
+pub use row::{Row, one_row, row_of};
 pub use shape::{Comparison, Relation, Shape};
 
 #[cfg(test)]

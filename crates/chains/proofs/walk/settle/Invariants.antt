@@ -1,0 +1,9 @@
+-- The places so far are marked by the end.
+use Rattle.std.proofs.Common.{◌≡◌}
+use Rattle.chains.specs.Chains.{IsEnd}
+use Rattle.chains.specs.Walks.{mark_of, StaysWithin}
+use Rattle.chains.proofs.Follow.{IsSettling}
+use Rattle.chains.proofs.walk.settle.Given as goal
+
+abbrev pub invariant-loop : goal.invariant-loop
+invariant-loop l = IsSettling l.links l.fn.start l.fn.walk.count l.fn.marks l.marks l.place l.counter

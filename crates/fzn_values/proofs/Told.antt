@@ -1,0 +1,156 @@
+-- What calls tell of literals, of integers and of lists.
+use Rattle.std.proofs.Common.{◌≡◌, ℕ, zero, suc, ◌+◌, ℤ, true, false, List, [], ◌∷◌, ◌++◌, take, length, get_or, slice_get, ◌<◌, Option, None, Some, Result, Ok, Err, IfOk, IfSome, MatchOption, Bor, refl, sym, ◌∙◌, ap, subst, arith}
+use Rattle.std.specs.Option.{option_copied}
+use Rattle.std.proofs.lemmas.Option.{slice_get_read}
+use Rattle.chains.specs.declared.link.Link.TheVariants as places
+use Rattle.fzn_syntax.specs.declared.declaration.Declaration.{Declaration}
+use Rattle.fzn_syntax.specs.declared.expression.Basic.{Basic}
+use Rattle.fzn_syntax.specs.declared.expression.Expression.{Expression}
+use Rattle.fzn_syntax.specs.declared.expression.Expression.TheVariants as expressions
+use Rattle.fzn_scope.specs.Names.{names_of, AreDifferent, IsNamed, IsPlaced, IsUndeclared}
+use Rattle.fzn_values.specs.declared.entry.Entry.{Entry}
+use Rattle.fzn_values.specs.declared.entry.Entry.TheVariants.{Constant, Variable}
+use Rattle.fzn_values.specs.declared.literal.Literal.{Literal}
+use Rattle.fzn_values.specs.declared.literal.Literal.TheVariants as literals
+use Rattle.fzn_values.specs.Literals.{is_number, is_literal, name_in, named_by, value_for, StandsFor, itself, through}
+use Rattle.fzn_values.specs.Links.{IsValueLink, IsLiteralOf, NameStandsFor}
+use Rattle.fzn_values.specs.Worth.{number, IsIntOf, IsListOf, AreInts, AreIntsOf, IsIntegerVariable, IsVariableOf, IsEntryOf}
+use Rattle.fzn_values.proofs.Named.{some_same, one_place, stands_literal, written, by_name, of_name, one_literal}
+
+pub copied_some : {X : Type 0} (r : Option (Bor X)) (N : Type 0) (P : X → Type 0) (x : X) → option_copied r ≡ Some x → P x → MatchOption r N (λ y. P y.now)
+copied_some None N P x e p = absurd cc
+copied_some (Some y) N P x e p = subst P (sym (some_same y.now x e)) p
+
+module _ (ds : List Declaration) (literal : Literal) (n : List ℕ) (place : ℕ) (d : Declaration) (at : slice_get ds place ≡ Some d) (named : IsNamed ds n d) where
+  pub name_has_none : AreDifferent (names_of ds) → IsLiteralOf ds literal d None → (l : Expression) → NameStandsFor ds literal n l → ⊥
+  name_has_none different none l h =
+      let same : h.2.0 ≡ named.0 = one_place ds n h.2.0 named.0 h.0 d different h.2.1 h.2.2 named.1 named.2 in
+      let there : slice_get ds named.0 ≡ Some h.0 = subst (λ k. slice_get ds k ≡ Some h.0) same h.2.1 in
+      let one : h.0 ≡ d = some_same h.0 d (sym there ∙ named.1) in
+      none h.1 l (ap (value_for literal) (sym one) ∙ h.3) h.4
+
+  pub name_has_some : (e : ℕ) (f : Declaration) (r : Option (Bor Expression)) (N : Type 0) → IsLiteralOf ds literal d (Some e) → slice_get ds e ≡ Some f → option_copied r ≡ value_for literal f
+      → MatchOption r N (λ l. NameStandsFor ds literal n l.now)
+  name_has_some e f r N h there told =
+      let same : h.2 ≡ f = some_same h.2 f (sym h.5 ∙ there) in
+      copied_some r N (NameStandsFor ds literal n) h.1 (told ∙ ap (value_for literal) (sym same) ∙ h.6) (d, h.0, named, h.3, h.4)
+
+module _ (ds : List Declaration) (b : Basic) (r : Option ℤ) where
+  pub int_written : name_in b ≡ None → MatchOption r (is_number b ≡ false) (λ z. b ≡ number z) → MatchOption r ((z : ℤ) → IsIntOf ds b z → ⊥) (IsIntOf ds b)
+  int_written none h = by r h
+    where
+      by : (o : Option ℤ) → MatchOption o (is_number b ≡ false) (λ z. b ≡ number z) → MatchOption o ((z : ℤ) → IsIntOf ds b z → ⊥) (IsIntOf ds b)
+      by None not = λ z s. let w = (written ds literals.Integer (expressions.Basic b) (expressions.Basic (number z)) none s).0 in absurd cc
+      by (Some z) is = subst (λ x. IsIntOf ds x z) (sym is) (itself refl refl)
+
+  pub int_named : (n : List ℕ) (l : Expression) → name_in b ≡ Some n → NameStandsFor ds literals.Integer n l → MatchOption r (is_literal literals.Integer l ≡ false) (λ z. l ≡ expressions.Basic (number z))
+      → MatchOption r ((z : ℤ) → IsIntOf ds b z → ⊥) (IsIntOf ds b)
+  int_named n l is s h = by r h
+    where
+      by : (o : Option ℤ) → MatchOption o (is_literal literals.Integer l ≡ false) (λ z. l ≡ expressions.Basic (number z)) → MatchOption o ((z : ℤ) → IsIntOf ds b z → ⊥) (IsIntOf ds b)
+      by None not = let w = stands_literal ds literals.Integer s.1 l s.4 in absurd cc
+      by (Some z) same = subst (λ x. StandsFor ds literals.Integer (expressions.Basic b) x) same (of_name ds literals.Integer (expressions.Basic b) l n is s)
+
+pub int_unnamed : (ds : List Declaration) (b : Basic) (n : List ℕ) → name_in b ≡ Some n → ((l : Expression) → NameStandsFor ds literals.Integer n l → ⊥) → (z : ℤ) → IsIntOf ds b z → ⊥
+int_unnamed ds b n is none z s = none (expressions.Basic (number z)) (by_name ds literals.Integer (expressions.Basic b) (expressions.Basic (number z)) n is s)
+
+module _ (ds : List Declaration) (e : Expression) (r : Option (Bor (List Basic))) where
+  pub list_written : named_by e ≡ None → MatchOption r (is_literal literals.List e ≡ false) (λ bs. e ≡ expressions.List bs.now) → MatchOption r ((bs : List Basic) → IsListOf ds e bs → ⊥) (λ bs. IsListOf ds e bs.now)
+  list_written none h = by r h
+    where
+      by : (o : Option (Bor (List Basic))) → MatchOption o (is_literal literals.List e ≡ false) (λ bs. e ≡ expressions.List bs.now) → MatchOption o ((bs : List Basic) → IsListOf ds e bs → ⊥) (λ bs. IsListOf ds e bs.now)
+      by None not = λ bs s. let w = (written ds literals.List e (expressions.List bs) none s).0 in absurd cc
+      by (Some bs) is = subst (λ x. IsListOf ds x bs.now) (sym is) (itself refl refl)
+
+  pub list_named : (n : List ℕ) (l : Expression) → named_by e ≡ Some n → NameStandsFor ds literals.List n l → MatchOption r (is_literal literals.List l ≡ false) (λ bs. l ≡ expressions.List bs.now)
+      → MatchOption r ((bs : List Basic) → IsListOf ds e bs → ⊥) (λ bs. IsListOf ds e bs.now)
+  list_named n l is s h = by r h
+    where
+      by : (o : Option (Bor (List Basic))) → MatchOption o (is_literal literals.List l ≡ false) (λ bs. l ≡ expressions.List bs.now) → MatchOption o ((bs : List Basic) → IsListOf ds e bs → ⊥) (λ bs. IsListOf ds e bs.now)
+      by None not = let w = stands_literal ds literals.List s.1 l s.4 in absurd cc
+      by (Some bs) same = subst (λ x. StandsFor ds literals.List e x) same (of_name ds literals.List e l n is s)
+
+pub list_unnamed : (ds : List Declaration) (e : Expression) (n : List ℕ) → named_by e ≡ Some n → ((l : Expression) → NameStandsFor ds literals.List n l → ⊥) → (bs : List Basic) → IsListOf ds e bs → ⊥
+list_unnamed ds e n is none bs s = none (expressions.List bs) (by_name ds literals.List e (expressions.List bs) n is s)
+
+pub one_list : (ds : List Declaration) (e : Expression) (bs cs : List Basic) → AreDifferent (names_of ds) → IsListOf ds e bs → IsListOf ds e cs → bs ≡ cs
+one_list ds e bs cs different h g =
+    let l : expressions.List bs ≡ expressions.List cs = one_literal ds literals.List different e (expressions.List bs) (expressions.List cs) h g in cc
+
+pub one_integer : (ds : List Declaration) (b : Basic) (y z : ℤ) → AreDifferent (names_of ds) → IsIntOf ds b y → IsIntOf ds b z → y ≡ z
+one_integer ds b y z different h g =
+    let l : expressions.Basic (number y) ≡ expressions.Basic (number z) = one_literal ds literals.Integer different (expressions.Basic b) (expressions.Basic (number y)) (expressions.Basic (number z)) h g in cc
+
+pub leads_nowhere : (ds : List Declaration) (literal : Literal) (v : Expression) (m : List ℕ) → is_literal literal v ≡ false → Some m ≡ named_by v → IsUndeclared ds m → IsValueLink ds literal v places.Nothing
+leads_nowhere ds literal v m is named none = (is, λ n e. subst (λ x. IsUndeclared ds x) (some_same m n (named ∙ e)) none)
+
+pub no_name : (ds : List Declaration) (literal : Literal) (n : List ℕ) → IsUndeclared ds n → (l : Expression) → NameStandsFor ds literal n l → ⊥
+no_name ds literal n none l h = none h.0 h.2
+
+-- ---- integer variables
+
+pub no_variable : (ds : List Declaration) (b : Basic) (n : List ℕ) → Some n ≡ name_in b → IsUndeclared ds n → (k : ℕ) → IsVariableOf ds b k → ⊥
+no_variable ds b n is none k h = none h.2.0 (k, h.2.1, h.2.2 ∙ sym (some_same n h.0 (is ∙ h.1)))
+
+pub other_variable : (ds : List Declaration) (b : Basic) (n : List ℕ) (place : ℕ) → AreDifferent (names_of ds) → Some n ≡ name_in b → IsPlaced ds n place → (IsIntegerVariable ds place → ⊥) → (k : ℕ) → IsVariableOf ds b k → ⊥
+other_variable ds b n place different is placed not k h =
+    let same_name : h.0 ≡ n = sym (some_same n h.0 (is ∙ h.1)) in
+    let same : k ≡ place = one_place ds n k place h.2.0 placed.0 different h.2.1 (h.2.2 ∙ same_name) placed.1 placed.2 in
+    not (subst (λ i. IsIntegerVariable ds i) same h.3)
+
+-- ---- integers one by one
+
+pub no_ints : (ds : List Declaration) (bs : List Basic) (i : ℕ) (b : Basic) → slice_get bs i ≡ Some b → ((z : ℤ) → IsIntOf ds b z → ⊥) → (zs : List ℤ) → AreInts ds bs zs → ⊥
+no_ints ds [] i b at none zs h = absurd cc
+no_ints ds (c ∷ bs) zero b at none [] h = absurd h
+no_ints ds (c ∷ bs) zero b at none (z ∷ zs) h = none z (subst (λ x. IsIntOf ds x z) (some_same c b at) h.0)
+no_ints ds (c ∷ bs) (suc i) b at none [] h = absurd h
+no_ints ds (c ∷ bs) (suc i) b at none (z ∷ zs) h = no_ints ds bs i b at none zs h.1
+
+pub ints_more : (ds : List Declaration) (bs : List Basic) (zs : List ℤ) (i : ℕ) (b : Basic) (z : ℤ) → slice_get bs i ≡ Some b → AreInts ds (take i bs) zs → IsIntOf ds b z → AreInts ds (take (i + 1) bs) (zs ++ z ∷ [])
+ints_more ds bs zs i b z at h is = let e : i + 1 ≡ suc i = omega arith in rw e (go bs zs i at h)
+  where
+    go : (cs : List Basic) (ys : List ℤ) (k : ℕ) → slice_get cs k ≡ Some b → AreInts ds (take k cs) ys → AreInts ds (take (suc k) cs) (ys ++ z ∷ [])
+    go [] ys k there g = absurd cc
+    go (c ∷ cs) [] zero there g = (subst (λ x. IsIntOf ds x z) (sym (some_same c b there)) is, tt)
+    go (c ∷ cs) (y ∷ ys) zero there g = absurd g
+    go (c ∷ cs) [] (suc k) there g = absurd g
+    go (c ∷ cs) (y ∷ ys) (suc k) there g = (g.0, go cs ys k there g.1)
+
+pub one_ints : (ds : List Declaration) (bs : List Basic) (ys zs : List ℤ) → AreDifferent (names_of ds) → AreInts ds bs ys → AreInts ds bs zs → ys ≡ zs
+one_ints ds [] [] [] different h g = refl
+one_ints ds [] [] (z ∷ zs) different h g = absurd g
+one_ints ds [] (y ∷ ys) zs different h g = absurd h
+one_ints ds (b ∷ bs) [] zs different h g = absurd h
+one_ints ds (b ∷ bs) (y ∷ ys) [] different h g = absurd g
+one_ints ds (b ∷ bs) (y ∷ ys) (z ∷ zs) different h g =
+    let first : y ≡ z = one_integer ds b y z different h.0 g.0 in
+    let others : ys ≡ zs = one_ints ds bs ys zs different h.1 g.1 in
+    cc
+
+pub one_ints_of : (ds : List Declaration) (e : Expression) (ys zs : List ℤ) → AreDifferent (names_of ds) → AreIntsOf ds e ys → AreIntsOf ds e zs → ys ≡ zs
+one_ints_of ds e ys zs different h g =
+    one_ints ds h.0 ys zs different h.2 (subst (λ x. AreInts ds x zs) (one_list ds e g.0 h.0 different g.1 h.1) g.2)
+
+pub no_ints_of : (ds : List Declaration) (e : Expression) (bs : List Basic) → AreDifferent (names_of ds) → IsListOf ds e bs → ((zs : List ℤ) → AreInts ds bs zs → ⊥) → (zs : List ℤ) → AreIntsOf ds e zs → ⊥
+no_ints_of ds e bs different is none zs h = none zs (subst (λ x. AreInts ds x zs) (one_list ds e h.0 bs different h.1 is) h.2)
+
+pub no_entry : (ds : List Declaration) (b : Basic) → ((z : ℤ) → IsIntOf ds b z → ⊥) → ((k : ℕ) → IsVariableOf ds b k → ⊥) → (e : Entry) → IsEntryOf ds b e → ⊥
+no_entry ds b none not (Constant z) h = none z h
+no_entry ds b none not (Variable k) h = not k h
+
+pub basic_at : (bs : List Basic) (i : ℕ) (b : Basic) → i < length bs → b ≡ get_or bs i b → slice_get bs i ≡ Some b
+basic_at bs i b lt is = slice_get_read bs (length bs) i b refl lt is
+
+module _ {V E : Type 0} (items : V → List ℤ) (ds : List Declaration) (e : Expression) (bs : List Basic) (different : AreDifferent (names_of ds)) (is : IsListOf ds e bs) where
+  pub ints_are : (r : Result (Option V) E) → IfOk r (λ o. MatchOption o ((zs : List ℤ) → AreInts ds bs zs → ⊥) (λ v. AreInts ds bs (items v)))
+      → IfOk r (λ o. MatchOption o ((zs : List ℤ) → AreIntsOf ds e zs → ⊥) (λ v. AreIntsOf ds e (items v)))
+  ints_are (Err x) h = tt
+  ints_are (Ok None) h = no_ints_of ds e bs different is h
+  ints_are (Ok (Some v)) h = (bs, is, h)
+
+  pub ints_only : (r : Result (Option V) E) → IfOk r (λ o. MatchOption o ((zs : List ℤ) → AreInts ds bs zs → ⊥) (λ v. AreInts ds bs (items v)))
+      → IfOk r (λ o. IfSome o (λ v. (zs : List ℤ) → AreIntsOf ds e zs → zs ≡ items v))
+  ints_only (Err x) h = tt
+  ints_only (Ok None) h = tt
+  ints_only (Ok (Some v)) h = λ zs g. one_ints_of ds e zs (items v) different g (bs, is, h)

@@ -1,0 +1,14 @@
+//! What constants are worth, and which lists arrays stand for.
+#![tactic(auto)]
+
+mod entry;
+mod link;
+mod literal;
+mod values;
+
+pub use entry::Entry;
+pub use literal::Literal;
+pub use values::{Values, one_integer, one_list};
+
+#[cfg(test)]
+mod tests;
