@@ -1,0 +1,3 @@
+mod Different
+mod Firsts
+mod Told

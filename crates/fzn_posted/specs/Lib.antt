@@ -1,0 +1,4 @@
+pub mod Arguments
+pub mod Shapes
+pub mod Posted
+pub mod Faults

@@ -1,0 +1,131 @@
+//! Which expressions are of the type that an argument is to have.
+ghost use Rattle.std.specs.Prelude.{◌≡◌, ◌↔◌, true, IsTrue};
+ghost use Rattle.fzn_scope.specs.Sorts.{sort, sort_of, Names};
+ghost use Rattle.fzn_posted.specs.Arguments.{NamesArray, IsArrayName, IsScalar, IsArray, IsOfType, IsArgumentAt, AreArguments};
+
+use fzn_floats::found;
+use fzn_scope::{Base, Reading, Scope, Sort, are_all, fits, sort_of};
+use fzn_syntax::{Basic, Declaration, Expression};
+use fzn_table::ArgumentType;
+
+fn is_sort(declaration: &Declaration, sort: Sort) -> bool
+    ensures { IsTrue result ↔ (sort_of declaration.now ≡ sort) }
+{
+    sort_of(declaration) == sort
+}
+
+fn names(scope: &Scope<'_>, name: &[u8], sort: Sort) -> bool
+    ensures { IsTrue result ↔ Names scope.now name.now sort }
+{
+    match found(scope, name) {
+        None => false,
+        Some(declaration) => is_sort(declaration, sort),
+    }
+}
+
+const fn array_of(base: Base, is_variable: bool) -> Sort
+    ensures { result ≡ sort base is_variable true }
+{
+    Sort {
+        base,
+        is_variable,
+        is_array: true,
+    }
+}
+
+fn names_array(scope: &Scope<'_>, reading: Reading, base: Base, name: &[u8]) -> bool
+    ensures { IsTrue result ↔ NamesArray scope.now reading base name.now }
+{
+    let parameters = names(scope, name, array_of(base, false));
+    match reading {
+        Reading::Constant => parameters,
+        Reading::Entry => parameters || names(scope, name, array_of(base, true)),
+    }
+}
+
+fn is_array_name(scope: &Scope<'_>, reading: Reading, base: Base, basic: &Basic) -> bool
+    ensures { IsTrue result ↔ IsArrayName scope.now reading base basic.now }
+{
+    match basic {
+        Basic::True => false,
+        Basic::False => false,
+        Basic::Name(name) => names_array(scope, reading, base, name.name.as_bytes()),
+        Basic::Number(_) => false,
+        Basic::Range(_) => false,
+        Basic::Set(_) => false,
+    }
+}
+
+fn is_scalar(scope: &Scope<'_>, reading: Reading, base: Base, expression: &Expression) -> bool
+    ensures { IsTrue result ↔ IsScalar scope.now reading base expression.now }
+{
+    match expression {
+        Expression::Basic(basic) => fits(scope, reading, base, basic),
+        Expression::List(_) => false,
+    }
+}
+
+fn is_array(scope: &Scope<'_>, reading: Reading, base: Base, expression: &Expression) -> bool
+    ensures { IsTrue result ↔ IsArray scope.now reading base expression.now }
+{
+    match expression {
+        Expression::Basic(basic) => is_array_name(scope, reading, base, basic),
+        Expression::List(basics) => are_all(scope, reading, base, basics.as_slice()),
+    }
+}
+
+/// Whether the expression is of this type.
+pub fn is_of_type(scope: &Scope<'_>, wanted: ArgumentType, expression: &Expression) -> bool
+    ensures { IsTrue result ↔ IsOfType scope.now wanted expression.now }
+{
+    match wanted {
+        ArgumentType::ConstantInteger => {
+            is_scalar(scope, Reading::Constant, Base::Int, expression)
+        }
+        ArgumentType::Set => is_scalar(scope, Reading::Constant, Base::Set, expression),
+        ArgumentType::ConstantIntegerArray => {
+            is_array(scope, Reading::Constant, Base::Int, expression)
+        }
+        ArgumentType::ConstantBooleanArray => {
+            is_array(scope, Reading::Constant, Base::Bool, expression)
+        }
+        ArgumentType::Integer => is_scalar(scope, Reading::Entry, Base::Int, expression),
+        ArgumentType::Boolean => is_scalar(scope, Reading::Entry, Base::Bool, expression),
+        ArgumentType::IntegerArray => is_array(scope, Reading::Entry, Base::Int, expression),
+        ArgumentType::BooleanArray => is_array(scope, Reading::Entry, Base::Bool, expression),
+    }
+}
+
+// Whether the argument at this place is of its type.
+fn is_right_at(
+    scope: &Scope<'_>,
+    wanted: ArgumentType,
+    arguments: &[Expression],
+    place: usize,
+) -> bool
+    ensures { IsTrue result ↔ IsArgumentAt scope.now wanted arguments.now place }
+{
+    match arguments.get(place) {
+        None => false,
+        Some(argument) => is_of_type(scope, wanted, argument),
+    }
+}
+
+// Whether there are as many arguments as types, and each is of its type.
+pub(crate) fn are_arguments(
+    scope: &Scope<'_>,
+    wanted: &[ArgumentType],
+    arguments: &[Expression],
+) -> bool
+    ensures { IsTrue result ↔ AreArguments scope.now wanted.now arguments.now }
+{
+    if arguments.len() != wanted.len() {
+        return false;
+    }
+    for (place, argument_type) in wanted.iter().enumerate() {
+        if !is_right_at(scope, *argument_type, arguments, place) {
+            return false;
+        }
+    }
+    true
+}

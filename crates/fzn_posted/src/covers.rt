@@ -1,0 +1,57 @@
+//! Numbers that are to be different.
+ghost use Rattle.std.specs.Prelude.{◌≡◌, ◌↔◌, ◌<◌, length, slice_get, Some, IsTrue, IfOk};
+ghost use Rattle.fzn_posted.specs.Shapes.{AreDifferent, HasDifferent, HasDifferentAt};
+
+use fzn_syntax::Expression;
+use fzn_values::Values;
+use std::alloc::{AllocError, Global};
+use std::collections::BTreeSet;
+
+fn int_at(ints: &[i64], place: usize) -> i64
+    requires { place < length ints.now }
+    ensures { slice_get ints.now place ≡ Some result }
+{
+    ints[place]
+}
+
+fn are_different(alloc: Global, ints: &[i64]) -> Result<bool, AllocError>
+    ensures { IfOk result (λ b. IsTrue b ↔ AreDifferent ints.now) }
+{
+    let mut seen = BTreeSet::new(alloc);
+    for place in 0..ints.len() {
+        let value = int_at(ints, place);
+        let added = seen.insert(value)?;
+        if !added {
+            return Ok(false);
+        }
+    }
+    Ok(true)
+}
+
+fn has_different(
+    alloc: Global,
+    values: &Values<'_>,
+    expression: &Expression,
+) -> Result<bool, AllocError>
+    ensures { IfOk result (λ b. IsTrue b ↔ HasDifferent values.now expression.now) }
+{
+    match values.ints_of(alloc, expression)? {
+        None => Ok(false),
+        Some(ints) => are_different(alloc, ints.as_slice()),
+    }
+}
+
+// Whether the argument at this place stands for integers that are different.
+pub(crate) fn has_different_at(
+    alloc: Global,
+    values: &Values<'_>,
+    arguments: &[Expression],
+    place: usize,
+) -> Result<bool, AllocError>
+    ensures { IfOk result (λ b. IsTrue b ↔ HasDifferentAt values.now arguments.now place) }
+{
+    match arguments.get(place) {
+        None => Ok(false),
+        Some(argument) => has_different(alloc, values, argument),
+    }
+}
