@@ -1,13 +1,12 @@
 -- The first declaration at fault.
-use Rattle.std.proofs.Common.{◌≡◌, ◌↔◌, ℕ, zero, suc, ◌<◌, ◌≤◌, ◌+◌, Bool, true, false, List, [], ◌∷◌, length, get_or, map, slice_get, Option, None, Some, MatchOption, IsTrue, refl, sym, ap, ◌∙◌, subst, arith, inl, inr, ◌⊎◌}
+use Rattle.std.proofs.Common.{◌≡◌, ◌↔◌, ℕ, zero, suc, ◌<◌, ◌≤◌, Bool, true, List, [], ◌∷◌, length, get_or, map, slice_get, Option, None, Some, MatchOption, IsTrue, refl, sym, ap, ◌∙◌, subst, arith, inl, inr}
 use Rattle.std.proofs.lemmas.Option.{slice_get_within, slice_get-get_or}
-use Rattle.digraph.specs.Cycle.{IsAskedOnCycle, HasNoneOnCycle, IsFirstOnCycle}
+use Rattle.digraph.specs.Cycle.{HasNoneOnCycle, IsFirstOnCycle}
 use Rattle.fzn_syntax.specs.declared.declaration.Declaration.{Declaration}
 use Rattle.fzn_scope.specs.Names.{identifier_of}
 use Rattle.fzn_declared.specs.declared.fault.ItemFault.{ItemFault}
 use Rattle.fzn_declared.specs.declared.fault.ItemFault.TheVariants.{FloatOrSet, Wrong}
 use Rattle.fzn_declared.specs.Declares.{DeclaresFloatOrSet}
-use Rattle.fzn_declared.specs.Right.{IsRight}
 use Rattle.fzn_declared.specs.Places.{graph_of}
 use Rattle.fzn_declared.specs.Faults.{is_constant, DependsOnItself, IsFaultIf, IsFaultAt, IsFineAt, IsFine, IsFirstFault, HaveOneFirst}
 

@@ -1,5 +1,5 @@
 -- The one declaration of a name.
-use Rattle.std.proofs.Common.{◌≡◌, ◌↔◌, ℕ, Bool, false, IsTrue, List, map, slice_get, Option, None, Some, MatchOption, refl, sym, ◌∙◌, ap, subst}
+use Rattle.std.proofs.Common.{◌≡◌, ◌↔◌, ℕ, Bool, false, IsTrue, List, slice_get, Option, None, Some, MatchOption, ◌∙◌, ap, subst}
 use Rattle.std.specs.Option.{option_map}
 use Rattle.std.proofs.lemmas.Option.{slice_get-map}
 use Rattle.fzn_syntax.specs.declared.declaration.Declaration.{Declaration}

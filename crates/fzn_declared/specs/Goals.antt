@@ -1,5 +1,5 @@
 -- The fault of a solve item.
-use Rattle.std.specs.Prelude.{◌≡◌, Bool, true, false, List}
+use Rattle.std.specs.Prelude.{◌≡◌, true, false, List}
 use Rattle.fzn_syntax.specs.declared.declaration.Declaration.{Declaration}
 use Rattle.fzn_syntax.specs.declared.solve.Goal.{Goal}
 use Rattle.fzn_syntax.specs.declared.solve.Goal.TheVariants.{Satisfy, Minimize, Maximize}

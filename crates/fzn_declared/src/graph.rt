@@ -9,7 +9,8 @@ use fzn_scope::Scope;
 use fzn_syntax::{Basic, Declaration, Expression};
 use std::alloc::{AllocError, Global};
 
-/// Each declaration is a node, and leads to those that its value names. A graph of more nodes than 32 bits can number has no memory.
+/// Each declaration is a node, and leads to those that its value names. For a graph of more nodes
+/// than 32 bits can number there is no memory.
 pub(crate) fn graph_of(alloc: Global, scope: &Scope<'_>) -> Result<Digraph, AllocError>
     ensures { IfOk result (λ g. g ≡ graph_of scope.now) }
 {

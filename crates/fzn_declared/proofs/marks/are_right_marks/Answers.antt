@@ -1,4 +1,3 @@
-use Rattle.std.proofs.Common.{refl}
 use Rattle.std.proofs.lemmas.List.Elements.{All-more}
 use Rattle.fzn_declared.specs.Marks.{IsRightMark}
 use Rattle.fzn_declared.proofs.MarkLaws.{one_is_not, all_are}
