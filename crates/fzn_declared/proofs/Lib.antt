@@ -1,4 +1,3 @@
-mod FoundLaws
 mod EdgeLaws
 mod PlaceLaws
 mod FaultLaws

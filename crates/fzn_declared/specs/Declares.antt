@@ -1,7 +1,7 @@
 -- Which declarations have a float or a set variable.
 use Rattle.std.specs.Prelude.{◌⊎◌, List, MatchOption}
 use Rattle.fzn_syntax.specs.declared.declaration.Declaration.{Declaration}
-use Rattle.fzn_declared.specs.Floats.{IsFloatOrSet, HasFloatOrSet}
+use Rattle.fzn_floats.specs.Floats.{IsFloatOrSet, HasFloatOrSet}
 use Rattle.fzn_declared.specs.Values.{value_of}
 
 -- the declaration is of a float or of a set variable, or its value has one

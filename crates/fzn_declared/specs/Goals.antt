@@ -8,7 +8,7 @@ use Rattle.fzn_scope.specs.declared.base.Base.TheVariants as bases
 use Rattle.fzn_scope.specs.Sorts.{sort, Names}
 use Rattle.fzn_declared.specs.declared.fault.ItemFault.{ItemFault}
 use Rattle.fzn_declared.specs.declared.fault.ItemFault.TheVariants.{FloatOrSet, Wrong}
-use Rattle.fzn_declared.specs.Floats.{NamesFloatOrSet}
+use Rattle.fzn_floats.specs.Floats.{NamesFloatOrSet}
 
 -- the goal is a float or a set variable, or an array of them
 abbrev pub AimsAtFloatOrSet : List Declaration → Goal → Type 0

@@ -1,5 +1,3 @@
-pub mod Floats
-pub mod Found
 pub mod Values
 pub mod Declares
 pub mod Marks

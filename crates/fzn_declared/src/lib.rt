@@ -3,8 +3,6 @@
 
 mod declares;
 mod fault;
-mod floats;
-mod found;
 mod goal;
 mod graph;
 mod marks;
@@ -13,7 +11,6 @@ mod value;
 
 pub use declares::declares_float_or_set;
 pub use fault::{ItemFault, first_fault, one_first};
-pub use floats::{has_float_or_set, is_float_or_set, names_float_or_set};
 pub use goal::solve_fault;
 pub use right::is_right;
 

@@ -1,1 +1,1 @@
-mod FoundLaws
+pub mod FoundLaws

@@ -1,7 +1,7 @@
 use Rattle.std.proofs.Common.{◌≡◌, true, false}
 use Rattle.fzn_scope.specs.declared.base.Base.TheVariants as bases
 use Rattle.fzn_scope.specs.Sorts.{sort, sort_of}
-use Rattle.fzn_declared.proofs.FoundLaws.{no_such, one_such}
+use Rattle.fzn_floats.proofs.FoundLaws.{no_such, one_such}
 use Rattle.fzn_declared.proofs.goal.names_integer.Goals as goal
 
 pub returns-in-None : goal.returns-in-None

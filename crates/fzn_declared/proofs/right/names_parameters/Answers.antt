@@ -1,7 +1,7 @@
 use Rattle.std.proofs.Common.{◌↔◌, IsTrue, ℤ, w64, FitsSigned, rules, subst}
 use Rattle.std.proofs.lemmas.Int.{to_z-of_z}
 use Rattle.fzn_declared.specs.Right.{IsParameters}
-use Rattle.fzn_declared.proofs.FoundLaws.{no_such, one_such}
+use Rattle.fzn_floats.proofs.FoundLaws.{no_such, one_such}
 use Rattle.fzn_declared.proofs.right.names_parameters.Goals as goal
 
 pub returns-in-None : goal.returns-in-None

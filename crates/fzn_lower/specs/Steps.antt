@@ -1,0 +1,92 @@
+-- What each step looks for, in the order of the steps.
+use Rattle.std.specs.Prelude.{◌≡◌, ℕ, ◌<◌, ◌≤◌, ◌-◌, ◌^◌, min, List, Option, Some, None, Result, Ok, Err}
+use Rattle.dom_model.specs.declared.counted.Counted.TheVariants.{Variables, Constraints, ArrayEntries, ArgumentEntries, Free}
+use Rattle.fzn_counts.specs.Entries.{entries_of}
+use Rattle.fzn_counts.specs.Sizes.{IsCounted, IsFirstTooMany}
+use Rattle.fzn_counts.specs.Unlisted.{AreKnown, IsFirstUnknown}
+use Rattle.fzn_declared.specs.Faults as declared
+use Rattle.fzn_declared.specs.Goals.{IsSolveFault, IsSolveFine}
+use Rattle.fzn_declared.specs.declared.fault.ItemFault.TheVariants as items
+use Rattle.fzn_lower.specs.Finding.{Step, ◌⟫◌}
+use Rattle.fzn_lower.specs.declared.error.ModelError.TheVariants.{TooMany, NameTwice, UnknownName, UnknownConstraint, WrongArguments, FloatOrSet, NotBuilt, Memory}
+use Rattle.fzn_names.specs.declared.error.NameError.TheVariants as names
+use Rattle.fzn_occurrences.specs.Scoped.{IsScoped}
+use Rattle.fzn_posted.specs.Faults as posted
+use Rattle.fzn_posted.specs.declared.fault.ConstraintFault.TheVariants as constraints
+use Rattle.fzn_syntax.specs.declared.items.Items.{Items}
+
+-- too many variables, constraints or entries of a list
+abbrev pub FindsSize : Items → Step
+FindsSize t None = IsCounted t (Ok tt)
+FindsSize t (Some (TooMany what count)) = IsFirstTooMany t what count
+FindsSize t (Some _) = ⊥
+
+-- a name that is declared twice or nowhere
+abbrev pub FindsName : Items → Step
+FindsName t None = IsScoped t (Ok t.declarations)
+FindsName t (Some (NameTwice at)) = IsScoped t (Err (names.NameTwice at))
+FindsName t (Some (UnknownName at)) = IsScoped t (Err (names.UnknownName at))
+FindsName t (Some _) = ⊥
+
+-- a constraint that there is not
+abbrev pub FindsUnknown : Items → Step
+FindsUnknown t None = AreKnown t.constraints
+FindsUnknown t (Some (UnknownConstraint at)) = IsFirstUnknown t.constraints at
+FindsUnknown t (Some _) = ⊥
+
+-- a declaration with a float or a set variable, or that is not right
+abbrev pub FindsDeclaration : Items → Step
+FindsDeclaration t None = declared.IsFine t.declarations
+FindsDeclaration t (Some (WrongArguments at)) = declared.IsFirstFault t.declarations (items.Wrong at)
+FindsDeclaration t (Some (FloatOrSet at)) = declared.IsFirstFault t.declarations (items.FloatOrSet at)
+FindsDeclaration t (Some _) = ⊥
+
+-- likewise a constraint
+abbrev pub FindsConstraint : Items → Step
+FindsConstraint t None = posted.IsFine t.declarations t.constraints
+FindsConstraint t (Some (WrongArguments at)) = posted.IsFirstFault t.declarations t.constraints (constraints.Wrong at)
+FindsConstraint t (Some (FloatOrSet at)) = posted.IsFirstFault t.declarations t.constraints (constraints.FloatOrSet at)
+FindsConstraint t (Some _) = ⊥
+
+-- likewise the solve item
+abbrev pub FindsSolve : Items → Step
+FindsSolve t None = IsSolveFine t.declarations t.solve
+FindsSolve t (Some (WrongArguments at)) = IsSolveFault t.declarations t.solve (items.Wrong at)
+FindsSolve t (Some (FloatOrSet at)) = IsSolveFault t.declarations t.solve (items.FloatOrSet at)
+FindsSolve t (Some _) = ⊥
+
+-- the entries of all arrays that constraints take, as far as 64 bits hold their number
+abbrev pub entries_in : Items → ℕ
+entries_in t = min (entries_of t.declarations t.constraints) (2 ^ 64 - 1)
+
+-- too many of them
+abbrev pub FindsEntries : Items → Step
+FindsEntries t None = entries_in t ≤ 2000000
+FindsEntries t (Some (TooMany what count)) = (what ≡ ArgumentEntries) × (count ≡ entries_in t) × (2000000 < count)
+FindsEntries t (Some _) = ⊥
+
+-- ---- in their order
+
+-- the goal, and then the entries
+abbrev pub FindsLast : Items → Step
+FindsLast t = FindsSolve t ⟫ FindsEntries t
+
+-- what is looked for once the declarations are right
+abbrev pub FindsValued : Items → Step
+FindsValued t = FindsConstraint t ⟫ FindsLast t
+
+-- what is looked for once all names are known
+abbrev pub FindsTyped : Items → Step
+FindsTyped t = FindsDeclaration t ⟫ FindsValued t
+
+-- what is looked for once the declared names are numbered
+abbrev pub FindsScoped : Items → Step
+FindsScoped t = FindsUnknown t ⟫ FindsTyped t
+
+-- what is looked for once nothing is too many
+abbrev pub FindsSized : Items → Step
+FindsSized t = FindsName t ⟫ FindsScoped t
+
+-- all of it
+abbrev pub FindsFault : Items → Step
+FindsFault t = FindsSize t ⟫ FindsSized t

@@ -1,0 +1,89 @@
+//! From items to their model.
+ghost use Rattle.std.specs.Prelude.{◌≡◌, None};
+ghost use Rattle.fzn_lower.specs.Lowered.{AreOfText, HasOneAnswer, IsLowered, Lowers};
+ghost use Rattle.fzn_lower.specs.Steps.{FindsSized, FindsScoped, FindsTyped, FindsValued};
+
+use crate::error::ModelError;
+use crate::steps::{check_declarations, check_names, check_sizes, check_valued};
+use dom_model::Model;
+use fzn_model::{ResolveError, model_of};
+use fzn_names::NameError;
+use fzn_occurrences::scope_of;
+use fzn_scope::Scope;
+use fzn_syntax::Items;
+use fzn_values::Values;
+use std::alloc::Global;
+
+/// Items have one answer, want of memory aside: so each fault comes exactly where it should, and is
+/// the first. The call does nothing.
+pub fn items_have_one_answer()
+    ensures { HasOneAnswer }
+{
+    fzn_occurrences::one_answer();
+    fzn_declared::one_first();
+    fzn_posted::one_first();
+    fzn_model::one_model();
+}
+
+/// The model of the items of some text, or their first fault.
+pub fn lower(alloc: Global, items: &Items) -> Result<Model, ModelError>
+    requires { AreOfText items.now }
+    ensures { IsLowered items.now result }
+{
+    check_sizes(items)?;
+    lower_sized(alloc, items)
+}
+
+fn lower_sized(alloc: Global, items: &Items) -> Result<Model, ModelError>
+    requires { AreOfText items.now }
+    ensures { Lowers (FindsSized items.now) items.now result }
+{
+    match scope_of(alloc, items) {
+        Ok(scope) => lower_scoped(alloc, &scope, items),
+        Err(NameError::NameTwice { at }) => Err(ModelError::NameTwice { at }),
+        Err(NameError::UnknownName { at }) => Err(ModelError::UnknownName { at }),
+        Err(NameError::Memory) => Err(ModelError::Memory),
+    }
+}
+
+fn lower_scoped(alloc: Global, scope: &Scope<'_>, items: &Items) -> Result<Model, ModelError>
+    requires same { scope.now ≡ items.now.declarations }
+    requires text { AreOfText items.now }
+    ensures { Lowers (FindsScoped items.now) items.now result }
+{
+    check_names(items)?;
+    lower_named(alloc, scope, items)
+}
+
+fn lower_named(alloc: Global, scope: &Scope<'_>, items: &Items) -> Result<Model, ModelError>
+    requires same { scope.now ≡ items.now.declarations }
+    requires text { AreOfText items.now }
+    ensures { Lowers (FindsTyped items.now) items.now result }
+{
+    check_declarations(alloc, scope, items)?;
+    lower_typed(alloc, scope, items)
+}
+
+fn lower_typed(alloc: Global, scope: &Scope<'_>, items: &Items) -> Result<Model, ModelError>
+    requires same { scope.now ≡ items.now.declarations }
+    requires text { AreOfText items.now }
+    ensures { Lowers (FindsValued items.now) items.now result }
+{
+    let values = Values::new(alloc, scope)?;
+    check_valued(alloc, &values, items)?;
+    lower_fine(alloc, &values, items)
+}
+
+// The model of items without a fault.
+fn lower_fine(alloc: Global, values: &Values<'_>, items: &Items) -> Result<Model, ModelError>
+    requires same { values.now ≡ items.now.declarations }
+    requires text { AreOfText items.now }
+    requires fine { FindsValued items.now None }
+    ensures { Lowers (FindsValued items.now) items.now result }
+{
+    match model_of(alloc, values, items) {
+        Ok(model) => Ok(model),
+        Err(ResolveError::NotBuilt) => Err(ModelError::NotBuilt),
+        Err(ResolveError::Memory) => Err(ModelError::Memory),
+    }
+}

@@ -1,0 +1,114 @@
+//! The steps that look for faults.
+ghost use Rattle.std.specs.Prelude.{◌≡◌};
+ghost use Rattle.fzn_lower.specs.Finding.{Finds};
+ghost use Rattle.fzn_lower.specs.Steps.{FindsSize, FindsUnknown, FindsDeclaration, FindsConstraint, FindsSolve, FindsEntries, FindsLast, FindsValued};
+
+use crate::error::ModelError;
+use dom_model::Counted;
+use fzn_counts::{argument_entries, count_items, first_unknown_constraint};
+use fzn_declared::{ItemFault, solve_fault};
+use fzn_posted::ConstraintFault;
+use fzn_scope::Scope;
+use fzn_syntax::Items;
+use fzn_values::Values;
+use std::alloc::Global;
+
+/// The most entries of all arrays that constraints take.
+const ENTRIES: u64 = 2_000_000;
+
+pub(crate) fn check_sizes(items: &Items) -> Result<(), ModelError>
+    ensures { Finds (FindsSize items.now) result }
+{
+    match count_items(items) {
+        Ok(()) => Ok(()),
+        Err(found) => Err(ModelError::TooMany {
+            what: found.what,
+            count: found.count,
+        }),
+    }
+}
+
+pub(crate) fn check_names(items: &Items) -> Result<(), ModelError>
+    ensures { Finds (FindsUnknown items.now) result }
+{
+    match first_unknown_constraint(items.constraints.as_slice()) {
+        None => Ok(()),
+        Some(at) => Err(ModelError::UnknownConstraint { at }),
+    }
+}
+
+pub(crate) fn check_declarations(
+    alloc: Global,
+    scope: &Scope<'_>,
+    items: &Items,
+) -> Result<(), ModelError>
+    requires { scope.now ≡ items.now.declarations }
+    ensures { Finds (FindsDeclaration items.now) result }
+{
+    match fzn_declared::first_fault(alloc, scope)? {
+        None => Ok(()),
+        Some(ItemFault::Wrong { at }) => Err(ModelError::WrongArguments { at }),
+        Some(ItemFault::FloatOrSet { at }) => Err(ModelError::FloatOrSet { at }),
+    }
+}
+
+/// What is looked for once the declarations are right.
+pub(crate) fn check_valued(
+    alloc: Global,
+    values: &Values<'_>,
+    items: &Items,
+) -> Result<(), ModelError>
+    requires { values.now ≡ items.now.declarations }
+    ensures { Finds (FindsValued items.now) result }
+{
+    check_constraints(alloc, values, items)?;
+    check_last(values.scope(), items)
+}
+
+fn check_constraints(
+    alloc: Global,
+    values: &Values<'_>,
+    items: &Items,
+) -> Result<(), ModelError>
+    requires { values.now ≡ items.now.declarations }
+    ensures { Finds (FindsConstraint items.now) result }
+{
+    match fzn_posted::first_fault(alloc, values, items.constraints.as_slice())? {
+        None => Ok(()),
+        Some(ConstraintFault::Wrong { at }) => Err(ModelError::WrongArguments { at }),
+        Some(ConstraintFault::FloatOrSet { at }) => Err(ModelError::FloatOrSet { at }),
+    }
+}
+
+fn check_last(scope: &Scope<'_>, items: &Items) -> Result<(), ModelError>
+    requires { scope.now ≡ items.now.declarations }
+    ensures { Finds (FindsLast items.now) result }
+{
+    check_solve(scope, items)?;
+    check_entries(scope, items)
+}
+
+fn check_solve(scope: &Scope<'_>, items: &Items) -> Result<(), ModelError>
+    requires { scope.now ≡ items.now.declarations }
+    ensures { Finds (FindsSolve items.now) result }
+{
+    match solve_fault(scope, &items.solve) {
+        None => Ok(()),
+        Some(ItemFault::Wrong { at }) => Err(ModelError::WrongArguments { at }),
+        Some(ItemFault::FloatOrSet { at }) => Err(ModelError::FloatOrSet { at }),
+    }
+}
+
+fn check_entries(scope: &Scope<'_>, items: &Items) -> Result<(), ModelError>
+    requires { scope.now ≡ items.now.declarations }
+    ensures { Finds (FindsEntries items.now) result }
+{
+    let count = argument_entries(scope, items.constraints.as_slice());
+    if ENTRIES < count {
+        return Err(ModelError::TooMany {
+            what: Counted::ArgumentEntries,
+            count,
+        });
+    }
+    Ok(())
+}

@@ -1,0 +1,6 @@
+mod Declaring
+mod Numbered
+mod Posted
+mod Single
+mod Sums
+mod Whole

@@ -1,0 +1,1 @@
+//! Models of short texts.
