@@ -2,11 +2,15 @@
 use crate::{
     TooMany, argument_entries, count_items, entries_are_bounded, first_unknown_constraint,
 };
+use dom_core::Name;
 use dom_model::Counted;
 use fzn_lex::lex;
 use fzn_occurrences::scope_of;
-use fzn_syntax::{Items, parse};
-use std::alloc::AllocError;
+use fzn_syntax::{
+    Basic, Constraint, Declaration, Expression, Goal, Identifier, IndexRange, Items, Parameter,
+    ParameterArray, ParameterType, Sequence, Solve, Variable, VariableType, parse,
+};
+use std::alloc::{AllocError, Global};
 use std::test::Fail;
 
 fn shared<T: Send + Sync>(_: &T) {}
@@ -16,42 +20,69 @@ fn items(rt: &HostRuntime, text: &str) -> Result<Items, Fail> {
     Ok(parse(rt.alloc(), text.as_bytes(), tokens.as_slice())?)
 }
 
-fn push_times(text: &mut String, piece: &str, times: u32) -> Result<(), AllocError> {
-    for _ in 0..times {
-        text.push_str(piece)?;
+fn nameless(alloc: Global) -> Identifier {
+    Identifier {
+        name: Name::from_vec(Vec::new(alloc)),
+        at: 0,
     }
-    Ok(())
 }
 
-// A text with so many variables, and so many constraints before its last. Its lists have so many
-// commas: one is the value of an array, and one an argument of the last constraint.
-struct Sizes {
+fn list(alloc: Global, entries: u32) -> Result<Expression, AllocError> {
+    let mut basics = Vec::new(alloc);
+    for _ in 0..entries {
+        basics.push(Basic::True)?;
+    }
+    Ok(Expression::List(Sequence::from_vec(basics)))
+}
+
+// So many variables, and behind them an array of parameters with so many entries.
+fn declarations(
+    alloc: Global,
     variables: u32,
-    constraints: u32,
-    value: u32,
-    argument: u32,
-}
-
-fn text_of(rt: &HostRuntime, sizes: &Sizes) -> Result<String, Fail> {
-    let mut text = String::new(rt.alloc());
-    push_times(&mut text, "var int: v;", sizes.variables)?;
-    text.push_str("array [1..1] of int: a = [1")?;
-    push_times(&mut text, ",1", sizes.value)?;
-    text.push_str("];")?;
-    push_times(&mut text, "constraint p();", sizes.constraints)?;
-    text.push_str("constraint p([1")?;
-    push_times(&mut text, ",1", sizes.argument)?;
-    text.push_str("]); solve satisfy;")?;
-    Ok(text)
-}
-
-const fn sizes(variables: u32, constraints: u32, value: u32, argument: u32) -> Sizes {
-    Sizes {
-        variables,
-        constraints,
-        value,
-        argument,
+    entries: u32,
+) -> Result<Sequence<Declaration>, AllocError> {
+    let mut declarations = Vec::new(alloc);
+    for _ in 0..variables {
+        declarations.push(Declaration::Variable(Variable {
+            element: VariableType::Bool,
+            name: nameless(alloc),
+            annotations: Sequence::from_vec(Vec::new(alloc)),
+            value: None,
+        }))?;
     }
+    declarations.push(Declaration::ParameterArray(ParameterArray {
+        index: IndexRange { first: 1, last: 1 },
+        entries: Parameter {
+            element: ParameterType::Bool,
+            name: nameless(alloc),
+            value: list(alloc, entries)?,
+        },
+    }))?;
+    Ok(Sequence::from_vec(declarations))
+}
+
+// So many constraints, and behind them one with a list of so many entries.
+fn constraints(
+    alloc: Global,
+    count: u32,
+    entries: u32,
+) -> Result<Sequence<Constraint>, AllocError> {
+    let mut constraints = Vec::new(alloc);
+    for _ in 0..count {
+        constraints.push(Constraint {
+            name: nameless(alloc),
+            arguments: Sequence::from_vec(Vec::new(alloc)),
+            annotations: Sequence::from_vec(Vec::new(alloc)),
+        })?;
+    }
+    let mut arguments = Vec::new(alloc);
+    arguments.push(list(alloc, entries)?)?;
+    constraints.push(Constraint {
+        name: nameless(alloc),
+        arguments: Sequence::from_vec(arguments),
+        annotations: Sequence::from_vec(Vec::new(alloc)),
+    })?;
+    Ok(Sequence::from_vec(constraints))
 }
 
 const fn too_many(what: Counted, count: u64) -> Option<TooMany> {
@@ -60,30 +91,60 @@ const fn too_many(what: Counted, count: u64) -> Option<TooMany> {
 
 #[test]
 fn the_first_thing_that_is_too_many_is_told(rt: HostRuntime) -> Result<(), Fail> {
-    for (sizes, want) in [
-        (sizes(0, 0, 0, 0), None),
-        (sizes(100_000, 99_999, 99_999, 99_999), None),
+    let alloc = rt.alloc();
+    for (variables, others, value, argument, want) in [
+        (0, 0, 0, 0, None),
+        (100_000, 99_999, 100_000, 100_000, None),
         (
-            sizes(100_001, 100_000, 100_000, 100_000),
+            100_001,
+            100_000,
+            100_001,
+            100_001,
             too_many(Counted::Variables, 100_001),
         ),
         (
-            sizes(100_000, 100_000, 100_000, 0),
+            100_000,
+            100_000,
+            100_001,
+            0,
             too_many(Counted::Constraints, 100_001),
         ),
         (
-            sizes(1, 1, 100_000, 100_001),
+            1,
+            1,
+            100_001,
+            100_002,
             too_many(Counted::ArrayEntries, 100_001),
         ),
         (
-            sizes(1, 1, 99_999, 100_001),
+            1,
+            1,
+            100_000,
+            100_002,
             too_many(Counted::ArrayEntries, 100_002),
         ),
     ] {
-        let text = text_of(&rt, &sizes)?;
-        let items = items(&rt, text.as_str())?;
+        let items = Items {
+            predicates: Sequence::from_vec(Vec::new(alloc)),
+            declarations: declarations(alloc, variables, value)?,
+            constraints: constraints(alloc, others, argument)?,
+            solve: Solve {
+                at: 0,
+                annotations: Sequence::from_vec(Vec::new(alloc)),
+                goal: Goal::Satisfy,
+            },
+        };
         assert!(rt; count_items(&items).err() == want, "the first of them");
     }
+    Ok(())
+}
+
+#[test]
+fn lists_in_a_text_are_not_too_long(rt: HostRuntime) -> Result<(), Fail> {
+    let text =
+        "array [1..2] of var int: a :: f([1,2]) = [1,2]; constraint p(a,[a]); solve satisfy;";
+    let items = items(&rt, text)?;
+    assert!(rt; count_items(&items).is_ok(), "two lists");
     Ok(())
 }
 
