@@ -1,69 +1,64 @@
--- From the text that was read to the file that it was read from.
-use Rattle.std.proofs.Common.{◌≡◌, ℕ, ◌+◌, ◌<◌, ◌≤◌, List, length, take, arith, sym, subst, ◌∙◌, min, ℤ}
-use Rattle.std.proofs.lemmas.List.{take_all, length-take}
-use Rattle.dom_edge.specs.Causes.{CountRose}
+-- What a command leaves of the text that was read, it leaves of the file.
+use Rattle.std.proofs.Common.{◌≡◌, ℕ, ◌<◌, List, take}
 use Rattle.dom_edge.specs.File.{IsMissing, Holds}
-use Rattle.dom_model.specs.Problem.{Problem}
 use Rattle.dom_top.specs.declared.answer.Answer.{Answer}
-use Rattle.dom_top.specs.declared.answer.Answer.TheVariants.{Best, Infeasible, ModelRefused, WordsRefused, ReadFault, WriteFault, NoMemory}
-use Rattle.dom_top.specs.Built.{IsBuilt}
-use Rattle.dom_top.specs.Solved.{Course, HasFile, HasNoModel, IsAnswered, IsSolved, IsSolvedText}
+use Rattle.dom_top.specs.declared.answer.Answer.TheVariants.{Best, Infeasible, Shown, ModelRefused, WordsRefused, ReadFault, WriteFault, NoMemory}
+use Rattle.dom_top.specs.Right.{Course, HasFile, IsAnswered}
+use Rattle.dom_top.specs.Shown.{IsShownText}
+use Rattle.dom_top.specs.Solved.{IsSolvedText}
+use Rattle.dom_top.specs.Written.{Written}
+use Rattle.dom_top.proofs.FileLemmas.{has_file, fault_file}
 
--- a text that is shorter than what was asked for is the whole file
-whole_file : (limit : ℕ) (text file : List ℕ) → text ≡ take limit file → length text < limit → text ≡ file
-whole_file limit text file is short =
-    let cut : length (take limit file) < limit = rw (← is) short in
-    let few : length file ≤ limit = let e = length-take limit file in omega (arith, e, cut) in
-    is ∙ take_all limit file few
+solved_file : (limit : ℕ) → 16777216 < limit → (text file : List ℕ) → text ≡ take limit file → (out : Written) (answer : Answer)
+    → IsSolvedText text out answer → IsSolvedText file out answer
+solved_file limit above text file is out (Best values nodes nogoods) s =
+    has_file limit above text file is (λ t. IsSolvedText t out (Best values nodes nogoods)) s.1.stands.items s.1.stands.read.has s
+solved_file limit above text file is out (Infeasible nodes nogoods) s =
+    has_file limit above text file is (λ t. IsSolvedText t out (Infeasible nodes nogoods)) s.1.stands.items s.1.stands.read.has s
+solved_file limit above text file is out Shown s = absurd s
+solved_file limit above text file is out (ModelRefused fault) s = (fault_file limit above text file is fault s.0, s.1)
+solved_file limit above text file is out WordsRefused s = absurd s
+solved_file limit above text file is out ReadFault s = absurd s
+solved_file limit above text file is out WriteFault s =
+    has_file limit above text file is (λ t. IsSolvedText t out WriteFault) s.1.stands.items s.1.stands.read.has s
+solved_file limit above text file is out NoMemory s = s
 
-built_file : (limit : ℕ) (text file : List ℕ) → 16777216 < limit → text ≡ take limit file
-    → (P : List ℕ → Problem → Type 0)
-    → ((p : Problem) × IsBuilt text p × P text p) → ((p : Problem) × IsBuilt file p × P file p)
-built_file limit text file above is P built =
-    let same : text ≡ file = whole_file limit text file is (omega (arith, built.1.short)) in
-    let Q : List ℕ → Type 0 = λ t. (p : Problem) × IsBuilt t p × P t p in
-    subst Q same built
+shown_file : (limit : ℕ) → 16777216 < limit → (text file : List ℕ) → text ≡ take limit file → (out : Written) (answer : Answer)
+    → IsShownText text out answer → IsShownText file out answer
+shown_file limit above text file is out (Best values nodes nogoods) s = absurd s
+shown_file limit above text file is out (Infeasible nodes nogoods) s = absurd s
+shown_file limit above text file is out Shown s = has_file limit above text file is (λ t. IsShownText t out Shown) s.0 s.2.has s
+shown_file limit above text file is out (ModelRefused fault) s = (fault_file limit above text file is fault s.0, s.1, s.2)
+shown_file limit above text file is out WordsRefused s = absurd s
+shown_file limit above text file is out ReadFault s = absurd s
+shown_file limit above text file is out WriteFault s = has_file limit above text file is (λ t. IsShownText t out WriteFault) s.0 s.2.has s
+shown_file limit above text file is out NoMemory s = s
 
-unbuilt_file : (limit : ℕ) (text file : List ℕ) → 16777216 < limit → text ≡ take limit file → HasNoModel text → HasNoModel file
-unbuilt_file limit text file above is never =
-    λ p built.
-    let short : length file ≤ limit = omega (arith, built.short) in
-    let same : file ≡ text = sym (is ∙ take_all limit file short) in
-    never p (subst (λ (t : List ℕ). IsBuilt t p) same built)
+module _ (c : Course) (model text : List ℕ) (limit : ℕ) (above : 16777216 < limit) (present : IsMissing (c.told model) → ⊥) (is : (file : List ℕ) → Holds (c.told model) file → text ≡ take limit file) where
+  solved_of : (answer : Answer) → IsSolvedText text c.out answer → HasFile c model (λ t. IsSolvedText t c.out answer)
+  solved_of answer s =
+      record { present = present; text = text; read = s; file = λ file holds. solved_file limit above text file (is file holds) c.out answer s }
 
-pub answered : (c : Course) (model text : List ℕ) (limit : ℕ) (answer : Answer) → 16777216 < limit
-    → (IsMissing (c.told model) → ⊥) → ((file : List ℕ) → Holds (c.told model) file → text ≡ take limit file)
-    → IsSolvedText text c.out answer → IsAnswered c model answer
-answered c model text limit (Best values nodes nogoods) above present is s = record {
-  present = present;
-  text = text;
-  read = s;
-  file = λ file holds. built_file limit text file above (is file holds) (λ t p. IsSolved p c.out (Best values nodes nogoods)) s;
-}
-answered c model text limit (Infeasible nodes nogoods) above present is s = record {
-  present = present;
-  text = text;
-  read = s;
-  file = λ file holds. built_file limit text file above (is file holds) (λ t p. IsSolved p c.out (Infeasible nodes nogoods)) s;
-}
-answered c model text limit (ModelRefused fault) above present is s = (
-  record {
-    present = present;
-    text = text;
-    read = s.0;
-    file = λ file holds. unbuilt_file limit text file above (is file holds) s.0;
-  },
-  s.1,
-)
-answered c model text limit WordsRefused above present is s = s
-answered c model text limit ReadFault above present is s = absurd s
-answered c model text limit WriteFault above present is s = (
-  record {
-    present = present;
-    text = text;
-    read = s;
-    file = λ file holds. built_file limit text file above (is file holds) (λ t p. IsSolved p c.out WriteFault) s;
-  },
-  s.2.rose,
-)
-answered c model text limit NoMemory above present is s = s
+  shown_of : (answer : Answer) → IsShownText text c.out answer → HasFile c model (λ t. IsShownText t c.out answer)
+  shown_of answer s =
+      record { present = present; text = text; read = s; file = λ file holds. shown_file limit above text file (is file holds) c.out answer s }
+
+  pub solve_answered : (answer : Answer) → IsSolvedText text c.out answer → IsAnswered IsSolvedText c model answer
+  solve_answered (Best values nodes nogoods) s = solved_of (Best values nodes nogoods) s
+  solve_answered (Infeasible nodes nogoods) s = solved_of (Infeasible nodes nogoods) s
+  solve_answered Shown s = absurd s
+  solve_answered (ModelRefused fault) s = (solved_of (ModelRefused fault) s, s.1)
+  solve_answered WordsRefused s = s
+  solve_answered ReadFault s = absurd s
+  solve_answered WriteFault s = (solved_of WriteFault s, s.2.rose)
+  solve_answered NoMemory s = s
+
+  pub show_answered : (answer : Answer) → IsShownText text c.out answer → IsAnswered IsShownText c model answer
+  show_answered (Best values nodes nogoods) s = absurd s
+  show_answered (Infeasible nodes nogoods) s = absurd s
+  show_answered Shown s = shown_of Shown s
+  show_answered (ModelRefused fault) s = (shown_of (ModelRefused fault) s, s.2)
+  show_answered WordsRefused s = s
+  show_answered ReadFault s = absurd s
+  show_answered WriteFault s = (shown_of WriteFault s, s.3.rose)
+  show_answered NoMemory s = s

@@ -1,2 +1,4 @@
-mod WordLemmas
+mod OneAnswer
+mod Outcomes
+mod FileLemmas
 mod AnswerLemmas

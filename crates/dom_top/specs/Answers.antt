@@ -1,12 +1,13 @@
 -- The answers of a run, and the number with which the program ends.
 use Rattle.std.specs.Prelude.{ℕ}
 use Rattle.dom_top.specs.declared.answer.Answer.{Answer}
-use Rattle.dom_top.specs.declared.answer.Answer.TheVariants.{Best, Infeasible, ModelRefused, WordsRefused, ReadFault, WriteFault, NoMemory}
+use Rattle.dom_top.specs.declared.answer.Answer.TheVariants.{Best, Infeasible, Shown, ModelRefused, WordsRefused, ReadFault, WriteFault, NoMemory}
 
 -- the exit code of an answer
 abbrev pub code_of : Answer → ℕ
 code_of (Best values nodes nogoods) = 0
 code_of (Infeasible nodes nogoods) = 0
+code_of Shown = 0
 code_of (ModelRefused fault) = 2
 code_of WordsRefused = 3
 code_of ReadFault = 4

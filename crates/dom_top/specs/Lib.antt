@@ -1,5 +1,9 @@
 pub mod Answers
-pub mod Built
+pub mod Texts
+pub mod Reading
 pub mod Messages
+pub mod Written
 pub mod Solved
+pub mod Shown
 pub mod Words
+pub mod Right

@@ -1,12 +1,7 @@
 ghost use Rattle.std.specs.Prelude.{◌≡◌};
 
+use crate::fault::ModelFault;
 use dom_core::Values;
-
-/// Why a model was refused.
-#[derive(Clone, Copy, Debug, PartialEq, Eq, Drop)]
-pub enum ModelFault {
-    NotBuilt,
-}
 
 /// What a run came to.
 #[derive(Debug, PartialEq, Drop)]
@@ -20,6 +15,8 @@ pub enum Answer {
         nodes: u64,
         nogoods: u64,
     },
+    /// The canonical text of the model was written.
+    Shown,
     ModelRefused {
         fault: ModelFault,
     },
@@ -44,7 +41,7 @@ impl Status {
         ensures { result ≡ code_of self.now.answer }
     {
         match &self.answer {
-            Answer::Best { .. } | Answer::Infeasible { .. } => 0,
+            Answer::Best { .. } | Answer::Infeasible { .. } | Answer::Shown => 0,
             Answer::ModelRefused { .. } => 2,
             Answer::WordsRefused => 3,
             Answer::ReadFault => 4,

@@ -2,7 +2,8 @@
 ghost use Rattle.std.specs.Prelude.{◌≡◌, ◌≤◌};
 ghost use Rattle.dom_model.specs.Least.{IsLeast, width_of};
 ghost use Rattle.dom_search.specs.Outcome.{AreNodes};
-ghost use Rattle.dom_top.specs.Solved.{HasNone, IsSolved, written};
+ghost use Rattle.dom_top.specs.Solved.{HasNone, IsSolved};
+ghost use Rattle.dom_top.specs.Written.{written};
 
 use crate::answer::Answer;
 use crate::writing::{TextError, write_text};

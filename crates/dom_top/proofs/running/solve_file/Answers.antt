@@ -1,11 +1,11 @@
 -- What was read is the file, or its first bytes.
 use Rattle.std.proofs.Common.{◌≡◌, ◌∙◌, arith}
-use Rattle.dom_top.proofs.AnswerLemmas.{answered}
+use Rattle.dom_top.proofs.AnswerLemmas.{solve_answered}
 use Rattle.dom_top.proofs.running.solve_file.Goals as goal
 
 pub returns-in-Ok-clause-right : goal.returns-in-Ok-clause-right
 returns-in-Ok-clause-right g c =
-    answered _ c.args.model.now c.as_slice.result.now 16777217 _ (omega arith)
+    solve_answered _ c.args.model.now c.as_slice.result.now 16777217 (omega arith)
     (λ missing. let failed = c.in-Ok.ensures.missing missing (omega arith) in cc)
     (λ file holds. c.as_slice.ensures.value ∙ c.in-Ok.ensures.read file holds)
-    c.solve_text.ensures.right
+    _ c.solve_text.ensures.right

@@ -1,5 +1,0 @@
-pub mod Lines
-pub mod Names
-pub mod Parts
-pub mod Resolves
-pub mod Stands
