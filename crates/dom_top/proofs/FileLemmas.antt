@@ -4,10 +4,9 @@ use Rattle.std.proofs.lemmas.List.{take_all, length-take}
 use Rattle.fzn_lex.specs.declared.errors.LexError.{LexError}
 use Rattle.fzn_lex.specs.declared.errors.LexError.TheVariants as lexing
 use Rattle.fzn_syntax.specs.declared.items.Items.{Items}
-use Rattle.dom_model.specs.Problem.{Problem}
 use Rattle.dom_top.specs.declared.fault.ModelFault.{ModelFault}
 use Rattle.dom_top.specs.declared.fault.ModelFault.TheVariants.{Lex, Syntax, Lower, NotBuilt}
-use Rattle.dom_top.specs.Texts.{HasItems, IsRead, IsBuilt, HasLexFault, IsFault}
+use Rattle.dom_top.specs.Texts.{HasItems, HasLexFault, IsFault}
 
 module _ (limit : ℕ) (above : 16777216 < limit) (text file : List ℕ) (is : text ≡ take limit file) where
   -- a text that is shorter than what was asked for is the whole file

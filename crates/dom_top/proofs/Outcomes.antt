@@ -1,5 +1,5 @@
 -- A text has one outcome.
-use Rattle.std.proofs.Common.{◌≡◌, ℕ, ◌<◌, ◌≤◌, List, length, Result, Ok, Err, refl, sym, subst, ap, arith}
+use Rattle.std.proofs.Common.{◌≡◌, ℕ, ◌≤◌, List, length, Result, Ok, Err, refl, subst, ap, arith}
 use Rattle.dom_model.specs.Least.{width_of}
 use Rattle.dom_model.specs.Problem.{Problem}
 use Rattle.fzn_lex.specs.declared.tokens.Token.{Token}
@@ -16,7 +16,7 @@ use Rattle.fzn_lower.specs.declared.error.ModelError.TheVariants as lowering
 use Rattle.fzn_lower.specs.Lowered as lowered
 use Rattle.dom_top.specs.declared.fault.ModelFault.{ModelFault}
 use Rattle.dom_top.specs.declared.fault.ModelFault.TheVariants.{Lex, Syntax, Lower, NotBuilt}
-use Rattle.dom_top.specs.Texts.{HasItems, IsRead, Stands, IsBuilt, HasLexFault, HasSyntaxFault, HasItemFault, IsTooWide, IsFault, HasOneOutcome, EveryTextHasOneOutcome}
+use Rattle.dom_top.specs.Texts.{HasItems, Stands, IsBuilt, HasLexFault, HasSyntaxFault, HasItemFault, IsTooWide, IsFault, HasOneOutcome}
 use Rattle.dom_top.proofs.OneAnswer.{one_value, one_error, not_both}
 
 module _ (lexes : cutting.HasOneAnswer) (parses : parsed.HasOneAnswer) (lowers : lowered.HasOneAnswer) (text : List ℕ) where

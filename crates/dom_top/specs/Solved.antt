@@ -1,5 +1,5 @@
 -- What solving leaves, answer by answer.
-use Rattle.std.specs.Prelude.{◌≡◌, ◌⊎◌, ℕ, ◌≤◌, ℤ, true, List, codes}
+use Rattle.std.specs.Prelude.{◌≡◌, ◌⊎◌, ℕ, ℤ, true, List, codes}
 use Rattle.dom_edge.specs.Causes.{CountRose}
 use Rattle.dom_edge.specs.Text.{Gains, GainsPrefix}
 use Rattle.dom_model.specs.Least.{IsFeasible, IsLeast}

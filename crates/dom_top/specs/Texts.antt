@@ -1,5 +1,5 @@
 -- The items of a text, the model that it stands for, and its first fault.
-use Rattle.std.specs.Prelude.{◌≡◌, ◌≢◌, ℕ, ◌<◌, ◌≤◌, List, length, Result, Ok, Err}
+use Rattle.std.specs.Prelude.{◌≡◌, ◌≢◌, ℕ, ◌<◌, ◌≤◌, List, length, Ok, Err}
 use Rattle.dom_model.specs.Least.{width_of}
 use Rattle.dom_model.specs.Problem.{Problem}
 use Rattle.fzn_lex.specs.declared.tokens.Token.{Token}

@@ -1,5 +1,5 @@
 -- What was read is the file, or its first bytes.
-use Rattle.std.proofs.Common.{◌≡◌, ◌∙◌, arith}
+use Rattle.std.proofs.Common.{◌∙◌, arith}
 use Rattle.dom_top.proofs.AnswerLemmas.{show_answered}
 use Rattle.dom_top.proofs.running.show_file.Goals as goal
 
