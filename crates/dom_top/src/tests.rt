@@ -399,17 +399,17 @@ fn the_first_fault_is_told_and_nothing_written(rt: HostRuntime) -> Result<(), Fa
     Ok(())
 }
 
-// So many blanks.
-fn blanks(alloc: Global, count: usize) -> Result<Vec<u8>, AllocError> {
-    vec![in alloc; b' '; count]
+// A comment of so many bytes.
+fn comment(alloc: Global, count: usize) -> Result<Vec<u8>, AllocError> {
+    vec![in alloc; b'%'; count]
 }
 
 #[test]
 fn a_text_of_one_byte_too_many_is_too_long(rt: HostRuntime) -> Result<(), Fail> {
-    let longest = blanks(rt.alloc(), 16_777_216)?;
+    let longest = comment(rt.alloc(), 16_777_216)?;
     let end = ModelFault::Syntax(SyntaxError::Unexpected { at: 16_777_216 });
     assert!(rt; refuses(&rt, "show", longest.as_slice(), end)?);
-    let longer = blanks(rt.alloc(), 16_777_217)?;
+    let longer = comment(rt.alloc(), 16_777_217)?;
     let fault = ModelFault::Lex(LexError::TooLong);
     assert!(rt; refuses(&rt, "show", longer.as_slice(), fault)?);
     Ok(())
