@@ -152,8 +152,8 @@ unknown_one cs a b (j, c, at_j, unlisted, is_a, before_j) (k, d, at_k, unknown, 
       | inr g ↦ elim g [
         | inl h ↦ (let known = before_j k d h at_k in absurd (unknown known.0 known.1))
         | inr same ↦ (
-          let one : c ≡ d = some_one at_j (subst (λ i. slice_get cs i ≡ Some d) (sym same) at_k) in
-          sym is_a ∙ ap (λ (x : Constraint). x.name.at) one ∙ is_b)
+            let one : c ≡ d = some_one at_j (subst (λ i. slice_get cs i ≡ Some d) (sym same) at_k) in
+            sym is_a ∙ ap (λ (x : Constraint). x.name.at) one ∙ is_b)
       ]
     ]
 

@@ -8,7 +8,6 @@ abbrev pub Step : Type 1
 Step = Option ModelError → Type 0
 
 infixr 20 ◌⟫◌
-
 -- what the first finds, or else what the second finds
 abbrev pub ◌⟫◌ : Step → Step → Step
 (F ⟫ G) None = F None × G None

@@ -65,11 +65,7 @@ pub(crate) fn check_valued(
     check_last(values.scope(), items)
 }
 
-fn check_constraints(
-    alloc: Global,
-    values: &Values<'_>,
-    items: &Items,
-) -> Result<(), ModelError>
+fn check_constraints(alloc: Global, values: &Values<'_>, items: &Items) -> Result<(), ModelError>
     requires { values.now ≡ items.now.declarations }
     ensures { Finds (FindsConstraint items.now) result }
 {

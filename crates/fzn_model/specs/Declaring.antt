@@ -37,4 +37,3 @@ abbrev pub IsDeclared : List Declaration → Problem → Result (Unit {0}) Resol
 IsDeclared ds p (Ok u) = AreBuilt ds × (p ≡ declared_problem ds)
 IsDeclared ds p (Err NotBuilt) = AreBuilt ds → ⊥
 IsDeclared ds p (Err Memory) = Unit {0}
-

@@ -15,5 +15,7 @@ fn is_named(name: &[u8], annotation: &Annotation) -> bool
 pub(crate) fn has_named(name: &[u8], annotations: &[Annotation]) -> bool
     ensures { result ≡ list_any (is_named name.now) annotations.now }
 {
-    annotations.iter().any(|annotation| is_named(name, annotation))
+    annotations
+        .iter()
+        .any(|annotation| is_named(name, annotation))
 }

@@ -25,11 +25,7 @@ pub fn one_model()
 }
 
 /// The model of items, whose declarations have these values.
-pub fn model_of(
-    alloc: Global,
-    values: &Values<'_>,
-    items: &Items,
-) -> Result<Model, ResolveError>
+pub fn model_of(alloc: Global, values: &Values<'_>, items: &Items) -> Result<Model, ResolveError>
     requires same { values.now ≡ items.now.declarations }
     requires ascii { All IsAsciiNamed items.now.declarations }
     ensures { Answers (Resolves items.now) result }

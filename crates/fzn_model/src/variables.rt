@@ -132,13 +132,7 @@ fn built_range(variable: &Variable) -> Option<(i64, i64)>
     }
     match range_of(&variable.element) {
         None => None,
-        Some((lo, hi)) => {
-            if is_fit(lo, hi) {
-                Some((lo, hi))
-            } else {
-                None
-            }
-        }
+        Some((lo, hi)) => { if is_fit(lo, hi) { Some((lo, hi)) } else { None } }
     }
 }
 
