@@ -1,8 +1,7 @@
-pub mod BoxLaws
-pub mod CellLaws
 pub mod DomainLaws
-pub mod KeptLaws
+pub mod LiteralLaws
 pub mod ProductLaws
 pub mod RankLaws
 pub mod RisesLaws
-pub mod StackLaws
+pub mod SortLaws
+pub mod TestLaws

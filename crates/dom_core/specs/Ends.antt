@@ -1,6 +1,6 @@
 -- Intervals of integers by their two ends.
-use Rattle.std.specs.Prelude.{◌≡◌, ◌&&◌, Bool, ℤ, pos, ◌+ℤ◌, ◌-ℤ◌, ◌*ℤ◌, ◌≤ℤ◌, ◌<ℤ◌, int_le, int_lt, if◌then◌else◌, Option, Some, None}
-use Rattle.std.specs.Int.{int_max, int_min}
+use Rattle.std.specs.Prelude.{◌≡◌, ◌&&◌, Bool, true, FitsSigned, ℤ, pos, ◌+ℤ◌, ◌-ℤ◌, ◌*ℤ◌, ◌≤ℤ◌, ◌<ℤ◌, int_le, int_lt, if◌then◌else◌, Option, Some, None}
+use Rattle.std.specs.Int.{int_max, int_min, w128}
 
 -- the two ends of an interval
 pub record Ends : Type 0 where
@@ -36,9 +36,23 @@ scaled_ends k a =
 abbrev pub hull_ends : Ends → Ends → Ends
 hull_ends a b = record { lo = int_min a.lo b.lo; hi = int_max a.hi b.hi }
 
--- the least interval over the products of an integer of the one and an integer of the other
-abbrev pub product_ends : Ends → Ends → Ends
-product_ends a b = hull_ends (scaled_ends a.lo b) (scaled_ends a.hi b)
+-- each product of an integer of the one and an integer of the other has 128 bits
+pub record ProductsFit (a b : Ends) : Type 0 where
+  pub fits : (x y : ℤ) → lies_in x a ≡ true → lies_in y b ≡ true → FitsSigned w128 (x *ℤ y)
+
+-- the integer is such a product
+pub record IsProductOf (a b : Ends) (z : ℤ) : Type 0 where
+  pub first : ℤ
+  pub second : ℤ
+  pub in_first : lies_in first a ≡ true
+  pub in_second : lies_in second b ≡ true
+  pub is : (first *ℤ second) ≡ z
+
+-- the least interval over the products: it has each of them, and its ends are two of them
+pub record IsProductHull (a b hull : Ends) : Type 0 where
+  pub all : (x y : ℤ) → lies_in x a ≡ true → lies_in y b ≡ true → lies_in (x *ℤ y) hull ≡ true
+  pub low : IsProductOf a b hull.lo
+  pub high : IsProductOf a b hull.hi
 
 -- the integers in both
 abbrev pub meet_ends : Ends → Ends → Ends

@@ -1,11 +1,7 @@
 pub mod Assignment
-pub mod Box
-pub mod Cell
 pub mod Domain
 pub mod Ends
-pub mod Flagged
 pub mod Literal
 pub mod Rises
 pub mod Small
-pub mod Stack
 pub mod View

@@ -1,5 +1,5 @@
 -- Lists of integers that rise.
-use Rattle.std.specs.Prelude.{◌≡◌, ℕ, zero, suc, Bool, true, false, ◌||◌, List, [], ◌∷◌, ℤ, pos, negsuc, ◌+ℤ◌, ◌-ℤ◌, ◌<ℤ◌}
+use Rattle.std.specs.Prelude.{◌≡◌, ℕ, zero, suc, ◌≤◌, ◌<◌, Bool, true, false, ◌||◌, List, [], ◌∷◌, length, ℤ, pos, negsuc, ◌+ℤ◌, ◌-ℤ◌, ◌<ℤ◌, ◌≤ℤ◌, slice_index_or}
 use Rattle.std.specs.Ordering.{int_eq}
 
 -- whether the value stands in the list
@@ -44,3 +44,20 @@ count_of lo hi = natural_of ((hi +ℤ pos 1) -ℤ lo)
 -- the integers from one end to the other, both among them
 abbrev pub range_of : ℤ → ℤ → List ℤ
 range_of lo hi = count_from lo (count_of lo hi)
+
+-- so many values of the list are less
+pub record IsRank (xs : List ℤ) (v : ℤ) (k : ℕ) : Type 0 where
+  pub within : k ≤ length xs
+  pub below : (i : ℕ) → i < k → slice_index_or xs i (pos 0) <ℤ v
+  pub from : (i : ℕ) → k ≤ i → i < length xs → v ≤ℤ slice_index_or xs i (pos 0)
+
+-- the second list rises and has exactly the values of the first
+pub record IsSortedOf (xs ys : List ℤ) : Type 0 where
+  pub rises : Rises ys
+  pub same : (x : ℤ) → is_among x ys ≡ is_among x xs
+
+-- the list has so many distinct values
+pub record IsDistinctCount (xs : List ℤ) (count : ℕ) : Type 0 where
+  pub values : List ℤ
+  pub sorted : IsSortedOf xs values
+  pub length : length values ≡ count

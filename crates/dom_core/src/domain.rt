@@ -1,9 +1,11 @@
 //! Domains: sorted lists of distinct integers.
 ghost use Rattle.std.specs.Prelude.{◌≡◌, ◌<◌, ◌^◌, length, slice_get, Some, ◌≤ℤ◌, IfOk};
+ghost use Rattle.dom_core.specs.Domain.{kept_values};
 ghost use Rattle.dom_core.specs.Small.{IsSmall};
 ghost use Rattle.dom_core.specs.Rises.{Rises, is_among, first_of, last_of, count_of};
 
 use crate::ranks::{rank_between, rank_in};
+use crate::sorts::sorted_of;
 use std::alloc::{AllocError, Global};
 use std::marker::Model;
 use thiserror::Error;
@@ -20,6 +22,16 @@ pub enum DomainError {
     TooLarge { count: u64 },
     #[error("out of memory")]
     Memory,
+}
+
+impl From<AllocError> for DomainError {
+    ghost use Rattle.dom_core.specs.declared.domain.DomainError.TheVariants.{Memory};
+
+    ghost from_gives = { λ _ e. e ≡ Memory };
+
+    fn from(_e: AllocError) -> DomainError {
+        DomainError::Memory
+    }
 }
 
 /// A sorted list of distinct integers, 1 to 4096 of them.
@@ -48,8 +60,8 @@ impl Model for Domain {
 }
 
 impl Domain {
-    ghost use Rattle.dom_core.specs.Domain.{IsDomain, IsRange};
-    ghost use Rattle.dom_core.specs.Flagged.{IsRank};
+    ghost use Rattle.dom_core.specs.Domain.{IsDomain, IsRange, IsOfValues};
+    ghost use Rattle.dom_core.specs.Rises.{IsRank};
 
     /// The integers from `lo` to `hi`, both among them.
     pub fn from_range(lo: i64, hi: i64) -> Result<Domain, DomainError>
@@ -66,6 +78,30 @@ impl Domain {
         }
         Ok(Domain {
             kept: Kept::Range(lo, hi),
+        })
+    }
+
+    /// The values of a list, which may stand in any order and be repeated.
+    pub fn from_values(alloc: Global, values: &[i64]) -> Result<Domain, DomainError>
+        ensures { IsOfValues values.now result }
+    {
+        let sorted = sorted_of(alloc, values)?;
+        Domain::from_sorted(sorted)
+    }
+
+    fn from_sorted(values: Vec<i64>) -> Result<Domain, DomainError>
+        requires { Rises values.items }
+        ensures { IsOfValues values.items result }
+    {
+        let count = values.len() as u64;
+        if count == 0 {
+            return Err(DomainError::Empty);
+        }
+        if DOMAIN_LIMIT < count {
+            return Err(DomainError::TooLarge { count });
+        }
+        Ok(Domain {
+            kept: kept_of(values),
         })
     }
 
@@ -123,7 +159,7 @@ impl Domain {
     }
 
     /// How many values of the domain are less.
-    pub(crate) fn rank(&self, value: i64) -> usize
+    pub fn rank(&self, value: i64) -> usize
         ensures rank { IsRank self.now value result }
         ensures sound { IsDomain self.now }
     {
@@ -142,6 +178,21 @@ impl Domain {
             Kept::Listed(values) => Kept::Listed(values.as_slice().to_vec(alloc)?),
         };
         Ok(Domain { kept })
+    }
+}
+
+/// The two ends of rising values without a gap, and else their list.
+fn kept_of(values: Vec<i64>) -> Kept
+    requires rises { Rises values.items }
+    requires some { 0 < length values.items }
+    ensures { kept_values result ≡ values.items }
+{
+    let lo = values[0];
+    let hi = values[values.len() - 1];
+    if hi as i128 - lo as i128 + 1 == values.len() as i128 {
+        Kept::Range(lo, hi)
+    } else {
+        Kept::Listed(values)
     }
 }
 

@@ -1,7 +1,7 @@
 //! Intervals of integers.
-ghost use Rattle.std.specs.Prelude.{◌≡◌, ◌≤ℤ◌, ◌*ℤ◌, FitsSigned};
+ghost use Rattle.std.specs.Prelude.{◌≡◌, ◌≤ℤ◌, FitsSigned};
 ghost use Rattle.std.specs.Int.{w128};
-ghost use Rattle.dom_core.specs.Ends.{IsOrdered, lies_in, sum_ends, difference_ends, scaled_ends, product_ends, hull_ends, IsMeet, IsSingle};
+ghost use Rattle.dom_core.specs.Ends.{IsOrdered, lies_in, sum_ends, scaled_ends, hull_ends, ProductsFit, IsProductHull, IsMeet, IsSingle};
 
 use std::marker::Model;
 
@@ -75,6 +75,17 @@ impl Interval {
                 hi: factor * self.hi,
             }
         }
+    }
+
+    /// The least interval over the products of an integer of each.
+    pub fn mul(self, other: Interval) -> Interval
+        requires { ProductsFit self other }
+        ensures { IsProductHull self other result }
+    {
+        prove!(other.lo <= other.hi);
+        let at_low = other.scale(self.lo);
+        let at_high = other.scale(self.hi);
+        at_low.hull(at_high)
     }
 
     /// The least interval over both.

@@ -1,7 +1,7 @@
 //! How many values of a rising list are less than a value.
 ghost use Rattle.std.specs.Prelude.{◌≡◌, ◌≤◌, ◌<◌, ◌^◌, length, ◌≤ℤ◌};
 ghost use Rattle.dom_core.specs.Rises.{Rises, range_of, count_of};
-ghost use Rattle.dom_core.specs.Flagged.{IsRank};
+ghost use Rattle.dom_core.specs.Rises.{IsRank};
 
 /// How many integers from `lo` to `hi` are less.
 pub(crate) fn rank_between(lo: i64, hi: i64, value: i64) -> usize

@@ -65,6 +65,21 @@ fn a_range_without_values_or_with_too_many_is_refused(rt: HostRuntime) {
 }
 
 #[test]
+fn listed_values_are_a_domain_in_rising_order(rt: HostRuntime) -> Result<(), Fail> {
+    let domain = Domain::from_values(rt.alloc(), [3, 1, 3].as_slice())
+        .ok()
+        .ok_or("no domain")?;
+    assert_eq!(rt; (domain.size(), domain.min(), domain.max()), (2, 1, 3));
+    for (value, among) in [(0, false), (1, true), (2, false), (3, true), (4, false)] {
+        assert_eq!(rt; domain.contains(value), among, "at {value}");
+    }
+    assert_eq!(rt; domain.rank(3), 1);
+    let none = Domain::from_values(rt.alloc(), [].as_slice());
+    assert_eq!(rt; none.err(), Some(DomainError::Empty));
+    Ok(())
+}
+
+#[test]
 fn an_assignment_is_written_value_by_value(rt: HostRuntime) -> Result<(), Fail> {
     let mut a = Assignment::zeros(rt.alloc(), 2)?;
     assert_eq!(rt; a.len(), 2);
@@ -102,6 +117,7 @@ fn intervals_add_scale_and_meet(rt: HostRuntime) {
     let b = Interval::new(4, 6);
     assert_eq!(rt; a.add(b), Interval::new(3, 8));
     assert_eq!(rt; a.scale(-3), Interval::new(-6, 3));
+    assert_eq!(rt; a.mul(b), Interval::new(-6, 12));
     assert_eq!(rt; a.hull(b), Interval::new(-1, 6));
     assert_eq!(rt; a.meet(b), None);
     assert_eq!(rt; a.meet(Interval::new(2, 9)), Some(Interval::new(2, 2)));
@@ -141,34 +157,5 @@ fn a_view_is_written_variable_by_variable(rt: HostRuntime) -> Result<(), Fail> {
         assert_eq!(rt; After(&view).interval(Y), two);
     }
     shared(&view);
-    Ok(())
-}
-
-/// Two variables: one with the values from 0 to 9, one with all integers from -5 to 5.
-fn two_cells(rt: &HostRuntime) -> Result<Cells, Fail>
-    ensures { IfOk result (λ c. length c.starts ≡ 2) }
-{
-    let domain = Domain::from_range(0, 9).ok().ok_or("no domain")?;
-    let starts = [Start::Values(domain), Start::Span { lo: -5, hi: 5 }];
-    Ok(Cells::new(rt.alloc(), &starts)?)
-}
-
-#[test]
-#[tactic(auto, using(crate::proofs::KeptLaws::suits_end))]
-fn cells_are_narrowed_and_undone(rt: HostRuntime) -> Result<(), Fail> {
-    let mut cells = two_cells(&rt)?;
-    cells.reserve(1)?;
-    shared(&cells);
-    assert_eq!(rt; (cells.lo(X), cells.hi(X), cells.has(Y, -5)), (0, 9, true));
-    let mark = cells.mark();
-    let low = Literal {
-        var: X,
-        rel: Rel::Ge,
-        value: 9,
-    };
-    assert!(rt; !cells.is_true(low) && !cells.is_false(low));
-    assert_eq!(rt; cells.narrow(low), Narrowed::Changed);
-    cells.undo(mark);
-    assert_eq!(rt; (cells.width(), cells.mark()), (2, mark));
     Ok(())
 }

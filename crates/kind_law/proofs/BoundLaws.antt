@@ -1,18 +1,19 @@
 -- Boxes with one bound more.
 use Rattle.std.proofs.Common.{◌≡◌, ℕ, ◌<◌, ◌≤◌, Bool, true, List, length, ℤ, pos, ◌+ℤ◌, ◌-ℤ◌, ◌≤ℤ◌, int_le, inl, inr, refl, sym, ◌∙◌, ap, subst, arith}
 use Rattle.std.proofs.lemmas.Int.{ints}
-use Rattle.dom_core.specs.Box.{Trailed, IsBox, cell_of, kept}
-use Rattle.dom_core.specs.Cell.{IsCell, IsPart, IsSane, has_of, lo_of, hi_of}
+use Rattle.dom_cells.specs.Box.{Trailed, IsBox, cell_of, kept}
+use Rattle.dom_cells.specs.Cell.{IsCell, IsPart, IsSane, has_of, lo_of, hi_of}
 use Rattle.dom_core.specs.Ends.{Ends}
 use Rattle.dom_core.specs.Literal.{holds_at, is_end}
 use Rattle.dom_core.specs.declared.literal.Literal.{Literal}
 use Rattle.dom_core.specs.Assignment.{entry_at}
-use Rattle.dom_core.specs.declared.start.Start.{Start}
-use Rattle.dom_core.specs.declared.start.Start.TheVariants.{Span}
+use Rattle.dom_cells.specs.declared.start.Start.{Start}
+use Rattle.dom_cells.specs.declared.start.Start.TheVariants.{Span}
 use Rattle.dom_core.specs.declared.var_id.VarId.{VarId}
-use Rattle.dom_core.proofs.BoxLaws.{sane-cell, sane-ends, sane-cut, has-cut, cut_at-same, cut_at-other, same_or_other}
-use Rattle.dom_core.proofs.CellLaws.{and_first, and_second, and_both, holds_le, holds_ge, le_holds, ge_holds, le_true, not_true}
-use Rattle.dom_core.proofs.KeptLaws.{suits_end}
+use Rattle.dom_cells.proofs.BoxLaws.{sane-cell, sane-ends, sane-cut, has-cut, cut_at-same, cut_at-other, same_or_other}
+use Rattle.dom_core.proofs.TestLaws.{and_first, and_second, and_both, le_true, not_true}
+use Rattle.dom_core.proofs.LiteralLaws.{holds_le, holds_ge, le_holds, ge_holds}
+use Rattle.dom_cells.proofs.KeptLaws.{suits_end}
 use Rattle.dom_core.proofs.RisesLaws.{natural_is}
 use Rattle.kind_law.specs.Laws.{AllBelow, AllSane, IsSmaller, EndsIn, AreWithin, hulls, ShrinkLaw, FitsLaw, FixedLaw, IsWithin, IsUnmet, point}
 use Rattle.kind_law.specs.Next.{below, above, trim, size_of, steps_refuted, IsBound}

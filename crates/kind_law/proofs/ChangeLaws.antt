@@ -8,7 +8,7 @@ use Rattle.dom_core.specs.Ends.{Ends, lies_in, only, meet_ends, difference_ends}
 use Rattle.dom_core.specs.View.{movement_at}
 use Rattle.dom_core.specs.declared.var_id.VarId.{VarId}
 use Rattle.dom_core.specs.declared.view.Movement.{Movement}
-use Rattle.dom_core.proofs.CellLaws.{le_true, true_le, and_first, and_second, and_both}
+use Rattle.dom_core.proofs.TestLaws.{le_true, true_le, and_first, and_second, and_both}
 use Rattle.dom_core.proofs.RisesLaws.{int_eq_same}
 use Rattle.kind_law.specs.Laws.{Each, Covers}
 use Rattle.kind_law.specs.DefineLaws.{is_still, all_still, met_or_second, changed_by}

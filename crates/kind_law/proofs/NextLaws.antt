@@ -1,14 +1,14 @@
 -- The deepest refuted step is the implied end.
 use Rattle.std.proofs.Common.{◌≡◌, ℕ, ◌+◌, ◌-◌, ◌<◌, ◌≤◌, Bool, true, false, List, length, take, ℤ, pos, ◌+ℤ◌, ◌-ℤ◌, ◌<ℤ◌, ◌≤ℤ◌, ◌⊎◌, inl, inr, refl, sym, ◌∙◌, ap, subst, arith, Option, Some, None, is_some, slice_get}
 use Rattle.std.proofs.lemmas.Int.{ints}
-use Rattle.dom_core.specs.Box.{kept}
-use Rattle.dom_core.specs.Cell.{IsSane, lo_of, hi_of}
+use Rattle.dom_cells.specs.Box.{kept}
+use Rattle.dom_cells.specs.Cell.{IsSane, lo_of, hi_of}
 use Rattle.dom_core.specs.Rises.{natural_of}
 use Rattle.dom_core.specs.declared.literal.Literal.{Literal}
 use Rattle.dom_core.specs.declared.literal.Rel.{Rel}
-use Rattle.dom_core.specs.declared.start.Start.{Start}
+use Rattle.dom_cells.specs.declared.start.Start.{Start}
 use Rattle.dom_core.specs.declared.var_id.VarId.{VarId}
-use Rattle.dom_core.proofs.CellLaws.{true_or_false, not_both}
+use Rattle.dom_core.proofs.TestLaws.{true_or_false, not_both}
 use Rattle.dom_core.proofs.RisesLaws.{natural_is}
 use Rattle.kind_law.specs.Laws.{AllBelow, AllSane, ShrinkLaw, Each}
 use Rattle.kind_law.specs.Next.{below, above, size_of, steps_refuted, IsDeepest, IsLowEnd, IsHighEnd, IsSideEnd, end_literal, IsEndOf, IsFirstEnd, IsNext, HasNoEnd}

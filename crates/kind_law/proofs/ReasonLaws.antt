@@ -6,18 +6,19 @@ use Rattle.std.specs.Option.{option_to_list}
 use Rattle.std.proofs.lemmas.Option.{get_or_from_slice_get, slice_get_within}
 use Rattle.std.proofs.Common.{below_more}
 use Rattle.dom_core.specs.Rises.{is_among}
-use Rattle.dom_core.specs.Box.{Trailed, start_at, cell_of, against, kept, cut_all, AllSuit, IsBox}
-use Rattle.dom_core.specs.Cell.{has_of, lo_of, hi_of, cut_lo, cut_hi, Suits, IsSane, IsCell, IsPart, IsPossible}
+use Rattle.dom_cells.specs.Box.{Trailed, start_at, cell_of, against, kept, cut_all, AllSuit, IsBox}
+use Rattle.dom_cells.specs.Cell.{has_of, lo_of, hi_of, cut_lo, cut_hi, Suits, IsSane, IsCell, IsPart, IsPossible}
 use Rattle.dom_core.specs.Literal.{holds_at, is_end, negation, opposite}
 use Rattle.dom_core.specs.declared.literal.Literal.{Literal}
 use Rattle.dom_core.specs.declared.literal.Rel.{Rel}
 use Rattle.dom_core.specs.declared.literal.Rel.TheVariants.{Le, Ge, Eq, Ne}
-use Rattle.dom_core.specs.declared.start.Start.{Start}
-use Rattle.dom_core.specs.declared.start.Start.TheVariants.{Values, Span}
+use Rattle.dom_cells.specs.declared.start.Start.{Start}
+use Rattle.dom_cells.specs.declared.start.Start.TheVariants.{Values, Span}
 use Rattle.dom_core.specs.declared.var_id.VarId.{VarId}
-use Rattle.dom_core.proofs.BoxLaws.{sane-cell, has-cut_all, sane-cut_all, holds_all, negation-holds, suits-negation, same_or_other, false_same, cut_at-other, cut_at-same}
-use Rattle.dom_core.proofs.CellLaws.{true_le, and_first, and_second, and_both, true_or_false, not_both, not_true, holds_le, fails_le, holds_ge, fails_ge, holds_eq, fails_eq}
-use Rattle.dom_core.proofs.KeptLaws.{suits_end}
+use Rattle.dom_cells.proofs.BoxLaws.{sane-cell, has-cut_all, sane-cut_all, holds_all, negation-holds, suits-negation, same_or_other, false_same, cut_at-other, cut_at-same}
+use Rattle.dom_core.proofs.TestLaws.{true_le, and_first, and_second, and_both, true_or_false, not_both, not_true}
+use Rattle.dom_core.proofs.LiteralLaws.{holds_le, fails_le, holds_ge, fails_ge, holds_eq, fails_eq}
+use Rattle.dom_cells.proofs.KeptLaws.{suits_end}
 use Rattle.dom_core.proofs.RisesLaws.{or_right, among_read, among_cases}
 use Rattle.kind_law.specs.Laws.{Each, AllBelow, ShrinkLaw}
 use Rattle.kind_law.specs.Next.{IsEndOf, IsNext}

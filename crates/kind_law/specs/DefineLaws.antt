@@ -2,10 +2,10 @@
 use Rattle.std.specs.Prelude.{◌≡◌, ◌-ℤ◌, ◌&&◌, Bool, true, not, if◌then◌else◌, List, [], ◌∷◌, ℕ, ℤ, pos, int_le}
 use Rattle.std.specs.Ordering.{int_eq}
 use Rattle.dom_core.specs.Assignment.{entry_at, value_at}
-use Rattle.dom_core.specs.Cell.{lo_of, hi_of, ends_of, IsSane}
+use Rattle.dom_cells.specs.Cell.{lo_of, hi_of, ends_of, IsSane}
 use Rattle.dom_core.specs.Ends.{Ends, lies_in, only, meet_ends, difference_ends}
 use Rattle.dom_core.specs.View.{movement_at}
-use Rattle.dom_core.specs.declared.start.Start.{Start}
+use Rattle.dom_cells.specs.declared.start.Start.{Start}
 use Rattle.dom_core.specs.declared.var_id.VarId.{VarId}
 use Rattle.dom_core.specs.declared.view.Movement.{Movement}
 use Rattle.kind_law.specs.Laws.{Each, AreWithin, EndsIn, Covers}

@@ -1,11 +1,11 @@
 -- The laws that every kind of constraint proves. Each speaks of the kind's own variables alone.
 use Rattle.std.specs.Prelude.{◌≡◌, ◌<◌, ◌≤ℤ◌, Bool, true, false, not, List, [], ◌∷◌, ℕ, ℤ}
 use Rattle.dom_core.specs.Assignment.{entry_at}
-use Rattle.dom_core.specs.Cell.{IsPart, IsSane, has_of, ends_of}
+use Rattle.dom_cells.specs.Cell.{IsPart, IsSane, has_of, ends_of}
 use Rattle.dom_core.specs.Ends.{Ends, only, difference_ends}
 use Rattle.dom_core.specs.View.{movement_at, IsCovered}
-use Rattle.dom_core.specs.declared.start.Start.{Start}
-use Rattle.dom_core.specs.declared.start.Start.TheVariants.{Span}
+use Rattle.dom_cells.specs.declared.start.Start.{Start}
+use Rattle.dom_cells.specs.declared.start.Start.TheVariants.{Span}
 use Rattle.dom_core.specs.declared.var_id.VarId.{VarId}
 use Rattle.dom_core.specs.declared.view.Movement.{Movement}
 

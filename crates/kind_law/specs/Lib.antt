@@ -3,8 +3,8 @@ pub mod Laws
 pub mod Next
 pub mod Reason
 pub use Rattle.dom_core.specs.Assignment
-pub use Rattle.dom_core.specs.Box
-pub use Rattle.dom_core.specs.Cell
+pub use Rattle.dom_cells.specs.Box
+pub use Rattle.dom_cells.specs.Cell
 pub use Rattle.dom_core.specs.Ends
 pub use Rattle.dom_core.specs.Literal
 pub use Rattle.dom_core.specs.Rises

@@ -1,13 +1,13 @@
 -- The ends that a kind implies.
 use Rattle.std.specs.Prelude.{◌≡◌, ◌<◌, ◌≤◌, Bool, true, false, List, length, take, ℕ, ℤ, pos, ◌+ℤ◌, ◌-ℤ◌, ◌<ℤ◌, ◌≤ℤ◌, Option, Some, None, slice_get}
-use Rattle.dom_core.specs.Box.{kept}
-use Rattle.dom_core.specs.Cell.{lo_of, hi_of, has_of}
+use Rattle.dom_cells.specs.Box.{kept}
+use Rattle.dom_cells.specs.Cell.{lo_of, hi_of, has_of}
 use Rattle.dom_core.specs.Literal.{is_end, holds_at}
 use Rattle.dom_core.specs.Rises.{natural_of}
 use Rattle.dom_core.specs.declared.literal.Literal.{Literal}
 use Rattle.dom_core.specs.declared.literal.Rel.{Rel}
 use Rattle.dom_core.specs.declared.literal.Rel.TheVariants.{Le, Ge, Eq, Ne}
-use Rattle.dom_core.specs.declared.start.Start.{Start}
+use Rattle.dom_cells.specs.declared.start.Start.{Start}
 use Rattle.dom_core.specs.declared.var_id.VarId.{VarId}
 use Rattle.kind_law.specs.Laws.{Each, AllBelow}
 use Rattle.kind_law.specs.declared.side.Side.{Side}

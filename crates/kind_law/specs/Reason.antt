@@ -1,12 +1,12 @@
 -- Reasons: clauses that say why a kind gave up a box or implied an end.
 use Rattle.std.specs.Prelude.{◌≡◌, ◌<◌, ◌==◌, ◌&&◌, ◌||◌, Bool, true, false, not, if◌then◌else◌, List, [], ◌∷◌, ◌++◌, ℕ, ℤ, ◌≤ℤ◌, Option, Some, None, MatchOption}
 use Rattle.std.specs.Option.{option_to_list}
-use Rattle.dom_core.specs.Box.{Trailed, start_at, cell_of, against, kept}
-use Rattle.dom_core.specs.Cell.{has_of, lo_of, hi_of, Suits, IsFalse, IsPossible}
+use Rattle.dom_cells.specs.Box.{Trailed, start_at, cell_of, against, kept}
+use Rattle.dom_cells.specs.Cell.{has_of, lo_of, hi_of, Suits, IsFalse, IsPossible}
 use Rattle.dom_core.specs.Literal.{holds_at, is_end, negation}
 use Rattle.dom_core.specs.declared.literal.Literal.{Literal}
 use Rattle.dom_core.specs.declared.literal.Rel.{Rel}
-use Rattle.dom_core.specs.declared.start.Start.{Start}
+use Rattle.dom_cells.specs.declared.start.Start.{Start}
 
 -- the literal bounds a cell by one end, may still fail there and may still hold, and the box in which it fails is refuted
 pub record IsImplied (refuted : (ℕ → Start) → Bool) (b : ℕ → Start) (l : Literal) : Type 0 where

@@ -1,14 +1,15 @@
 //! What every kind of constraint offers and proves.
 
-use dom_core::{Assignment, Cells, Region, VarId, View};
+use dom_cells::{Cells, Region};
+use dom_core::{Assignment, VarId, View};
 
 /// A kind of constraint: its plain meaning, when a view keeps it, and when a box is given up.
 pub trait Kind {
     ghost use Rattle.std.specs.Prelude.{◌≡◌, length, true, false, List, Bool, ℕ, ℤ};
-    ghost use Rattle.dom_core.specs.Box.{cell_of};
+    ghost use Rattle.dom_cells.specs.Box.{cell_of};
     ghost use Rattle.dom_core.specs.Ends.{Ends};
     ghost use Rattle.dom_core.specs.View.{movement_at};
-    ghost use Rattle.dom_core.specs.declared.start.Start.{Start};
+    ghost use Rattle.dom_cells.specs.declared.start.Start.{Start};
     ghost use Rattle.dom_core.specs.declared.var_id.VarId.{VarId};
     ghost use Rattle.dom_core.specs.declared.view.Movement.{Movement};
     ghost use Rattle.kind_law.specs.Laws.{Each, AllBelow, AllSane, points, hulls, befores, afters, IsTrueChange, IsUnmet, FitsLaw, ShrinkLaw, FixedLaw, KeepLaw};

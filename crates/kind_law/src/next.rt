@@ -1,13 +1,14 @@
 //! The first end that a kind implies, found by asking whether smaller boxes are refuted.
 ghost use Rattle.std.specs.Prelude.{◌≡◌, ◌<◌, ◌≤◌, length, false, true, ℕ, ◌+◌};
-ghost use Rattle.dom_core.specs.Box.{cell_of, kept, IsBox};
-ghost use Rattle.dom_core.specs.Cell.{lo_of, hi_of};
+ghost use Rattle.dom_cells.specs.Box.{cell_of, kept, IsBox};
+ghost use Rattle.dom_cells.specs.Cell.{lo_of, hi_of};
 ghost use Rattle.kind_law.specs.Laws.{AllBelow, hulls};
 ghost use Rattle.kind_law.specs.Next.{IsNext, trim, size_of, steps_refuted, IsDeepest, IsSideEnd, end_literal, IsReadable, IsBound, IsFirstEnd};
 
 use crate::kind::Kind;
 use crate::side::Side;
-use dom_core::{Cells, Kept, Literal, Rel, VarId};
+use dom_cells::{Cells, Kept};
+use dom_core::{Literal, Rel, VarId};
 
 /// The first implied end, in the order of the kind's variables, the lower end of each first.
 pub fn next_of<K: Kind>(kind: &K, cells: &Cells) -> Option<Literal>

@@ -1,14 +1,15 @@
 //! What a kind implies, and why.
 
 use crate::kind::Kind;
-use dom_core::{Cells, Clause, Literal};
+use dom_cells::Cells;
+use dom_core::{Clause, Literal};
 use std::alloc::AllocError;
 
 /// A kind that tells the ends that it implies and gives reasons. The usual bodies are [`next_of`](crate::next_of) and
 /// [`reason_of`](crate::reason_of); a kind may answer faster, or with a shorter reason, under the same clauses.
 pub trait Propagate: Kind {
     ghost use Rattle.std.specs.Prelude.{◌≡◌, false, length, OnOk, OnErr, []};
-    ghost use Rattle.dom_core.specs.Box.{cell_of};
+    ghost use Rattle.dom_cells.specs.Box.{cell_of};
     ghost use Rattle.kind_law.specs.Laws.{AllBelow, hulls};
     ghost use Rattle.kind_law.specs.Next.{IsNext};
     ghost use Rattle.kind_law.specs.Reason.{IsCause, IsRead, IsReason};

@@ -1,12 +1,13 @@
 //! Reasons for what a kind gave up or implied, by the ends and the holes of its variables' cells.
 ghost use Rattle.std.specs.Prelude.{◌≡◌, ◌<◌, length, OnOk, OnErr, [], ◌++◌};
 ghost use Rattle.std.specs.Option.{option_to_list};
-ghost use Rattle.dom_core.specs.Box.{cell_of, start_at, IsBox};
+ghost use Rattle.dom_cells.specs.Box.{cell_of, start_at, IsBox};
 ghost use Rattle.kind_law.specs.Laws.{AllBelow, Each};
 ghost use Rattle.kind_law.specs.Reason.{IsCause, IsRead, IsReason, AddsFine, CoversLow, CoversHigh, CoversValue, CoversInside, CoversVar, looks, IsListedAt};
 
 use crate::kind::Kind;
-use dom_core::{Cells, Clause, Domain, Literal, Rel, Start, VarId};
+use dom_cells::{Cells, Start};
+use dom_core::{Clause, Domain, Literal, Rel, VarId};
 use std::alloc::AllocError;
 
 /// Writes the reason for the implied end, or, without one, for why the kind refutes the cells: for each of the kind's

@@ -1,7 +1,7 @@
 -- Linear relations.
 use Rattle.std.specs.Prelude.{◌≤◌, ◌^◌, Bool, List, ℕ, ℤ}
 use Rattle.dom_core.specs.Ends.{Ends}
-use Rattle.dom_core.specs.declared.start.Start.{Start}
+use Rattle.dom_cells.specs.declared.start.Start.{Start}
 use Rattle.dom_core.specs.declared.var_id.VarId.{VarId}
 use Rattle.dom_core.specs.declared.view.Movement.{Movement}
 use Rattle.kind_law.specs.Laws.{hulls, changes, afters}

@@ -7,7 +7,7 @@ use Rattle.dom_core.specs.View.{IsCovered}
 use Rattle.dom_core.specs.declared.arg.Arg.{Arg}
 use Rattle.dom_core.specs.declared.arg.Arg.TheVariants.{Var, Const}
 use Rattle.dom_core.specs.declared.view.Movement.{Movement}
-use Rattle.dom_core.proofs.CellLaws.{le_true, true_le, not_true, and_first, and_second, and_both, not_both}
+use Rattle.dom_core.proofs.TestLaws.{le_true, true_le, not_true, and_first, and_second, and_both, not_both}
 use Rattle.dom_core.proofs.RisesLaws.{same_test, int_eq_same, int_eq_from, or_true}
 use Rattle.dom_core.proofs.ProductLaws.{lt_true, scaled_has}
 use Rattle.kind_law.specs.Laws.{Each, EndsIn, AreWithin, hulls, changes, afters, FitsLaw, ShrinkLaw, FixedLaw, KeepLaw}

@@ -5,9 +5,8 @@ ghost use Rattle.kind_linear.specs.Sum.{terms_of};
 use crate::relation::{Relation, is_kept, is_met, is_refuted};
 use crate::term::{Reading, Term, distinct_vars, pair_up};
 use crate::total::total_of;
-use dom_core::{
-    After, Arg, Assignment, Cells, Changes, Clause, Hulls, Literal, Point, Region, VarId, View,
-};
+use dom_cells::{Cells, Hulls, Point, Region};
+use dom_core::{After, Arg, Assignment, Changes, Clause, Literal, VarId, View};
 use kind_law::{Kind, Propagate, next_of, reason_of};
 use std::alloc::{AllocError, Global};
 use std::marker::Model;

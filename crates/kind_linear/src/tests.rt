@@ -1,5 +1,6 @@
 use super::*;
-use dom_core::{Arg, Assignment, Cells, Clause, Interval, Literal, Rel, Start, VarId, View};
+use dom_cells::{Cells, Start};
+use dom_core::{Arg, Assignment, Clause, Interval, Literal, Rel, VarId, View};
 use kind_law::{Kind, Propagate, are_still, change_by};
 use std::test::Fail;
 

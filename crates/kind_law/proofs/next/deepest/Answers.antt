@@ -1,5 +1,5 @@
 use Rattle.std.proofs.Common.{◌≡◌, ◌∙◌, sym, ap, ◌<◌, ◌+◌, ◌-◌, length, arith, false}
-use Rattle.dom_core.specs.Box.{cell_of, kept}
+use Rattle.dom_cells.specs.Box.{cell_of, kept}
 use Rattle.dom_core.specs.declared.literal.Literal.{Literal}
 use Rattle.kind_law.specs.Next.{size_of, steps_refuted}
 use Rattle.kind_law.proofs.BoundLaws.{box-sane, trim-bound}

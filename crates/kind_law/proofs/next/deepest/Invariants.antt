@@ -1,4 +1,4 @@
-use Rattle.dom_core.specs.Box.{cell_of}
+use Rattle.dom_cells.specs.Box.{cell_of}
 use Rattle.kind_law.specs.Next.{size_of, steps_refuted}
 use Rattle.kind_law.proofs.NextLaws.{Found}
 use Rattle.kind_law.proofs.next.deepest.Given as goal

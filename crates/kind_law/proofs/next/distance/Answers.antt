@@ -1,7 +1,7 @@
 use Rattle.std.proofs.Common.{rules, ◌≡◌, ◌+ℤ◌, pos, arith, FitsSigned, w64}
 use Rattle.std.proofs.lemmas.Int.{ints}
-use Rattle.dom_core.specs.Cell.{lo_of, hi_of}
-use Rattle.dom_core.specs.Box.{cell_of}
+use Rattle.dom_cells.specs.Cell.{lo_of, hi_of}
+use Rattle.dom_cells.specs.Box.{cell_of}
 use Rattle.kind_law.specs.Next.{size_of}
 use Rattle.kind_law.proofs.BoundLaws.{size_is}
 use Rattle.kind_law.proofs.next.distance.Goals as goal

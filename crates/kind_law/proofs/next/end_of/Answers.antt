@@ -1,5 +1,5 @@
 use Rattle.std.proofs.Common.{subst, ◌<◌, length, arith}
-use Rattle.dom_core.specs.Box.{cell_of}
+use Rattle.dom_cells.specs.Box.{cell_of}
 use Rattle.kind_law.specs.Next.{size_of, steps_refuted, IsDeepest}
 use Rattle.kind_law.proofs.EachLaws.{each_at}
 use Rattle.kind_law.proofs.NextLaws.{no_end, some_end}

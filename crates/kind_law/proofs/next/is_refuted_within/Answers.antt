@@ -1,5 +1,5 @@
 use Rattle.std.proofs.Common.{length}
-use Rattle.dom_core.specs.Box.{cell_of}
+use Rattle.dom_cells.specs.Box.{cell_of}
 use Rattle.kind_law.proofs.BoundLaws.{box-sane, kept-all-sane, kept-fits}
 use Rattle.kind_law.proofs.next.is_refuted_within.Goals as goal
 

@@ -1,7 +1,7 @@
 use Rattle.std.proofs.Common.{◌≡◌, ◌∙◌, sym, ap, List, get_or, slice_get, Some}
 use Rattle.std.proofs.lemmas.Option.{slice_get-get_or}
 use Rattle.dom_core.specs.declared.var_id.VarId.{VarId}
-use Rattle.dom_core.specs.Box.{cell_of}
+use Rattle.dom_cells.specs.Box.{cell_of}
 use Rattle.kind_law.specs.Next.{HasNoEnd}
 use Rattle.kind_law.proofs.EachLaws.{each_more}
 use Rattle.kind_law.proofs.NextLaws.{first_none, not_some}

@@ -1,5 +1,5 @@
 use Rattle.std.proofs.Common.{take}
-use Rattle.dom_core.specs.Box.{cell_of}
+use Rattle.dom_cells.specs.Box.{cell_of}
 use Rattle.kind_law.specs.Laws.{Each}
 use Rattle.kind_law.specs.Next.{HasNoEnd}
 use Rattle.kind_law.proofs.next.next_of.Given as goal

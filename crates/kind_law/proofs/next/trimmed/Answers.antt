@@ -1,8 +1,8 @@
 use Rattle.std.proofs.Common.{rules, ◌≡◌, ap, ◌+ℤ◌, ◌-ℤ◌, ℤ, pos, arith, FitsSigned, w64, to_z, of_z}
 use Rattle.std.proofs.lemmas.Int.{ints}
 use Rattle.std.specs.Int.{w128}
-use Rattle.dom_core.specs.Cell.{lo_of, hi_of}
-use Rattle.dom_core.specs.Box.{cell_of}
+use Rattle.dom_cells.specs.Cell.{lo_of, hi_of}
+use Rattle.dom_cells.specs.Box.{cell_of}
 use Rattle.dom_core.specs.declared.literal.Literal.{Literal}
 use Rattle.dom_core.specs.declared.literal.Rel.TheVariants.{Le, Ge}
 use Rattle.kind_law.specs.Next.{size_of}

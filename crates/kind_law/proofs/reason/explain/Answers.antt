@@ -1,5 +1,5 @@
 use Rattle.kind_law.proofs.ReasonLaws.{adds-more, low-more, high-more}
-use Rattle.dom_core.proofs.CellLaws.{not_both}
+use Rattle.dom_core.proofs.TestLaws.{not_both}
 use Rattle.kind_law.proofs.reason.explain.Goals as goal
 
 pub returns-then-not-deep-clause-fine : goal.returns-then-not-deep-clause-fine

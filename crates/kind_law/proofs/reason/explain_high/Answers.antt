@@ -1,7 +1,7 @@
 use Rattle.std.proofs.Common.{rules, ◌≡◌, ◌∙◌, ap, ◌+ℤ◌, pos, [], ◌∷◌, ◌++◌, arith, FitsSigned, w64, to_z, of_z, ◌<ℤ◌}
 use Rattle.std.proofs.lemmas.Int.{ints}
-use Rattle.dom_core.specs.Cell.{hi_of}
-use Rattle.dom_core.specs.Box.{cell_of, start_at}
+use Rattle.dom_cells.specs.Cell.{hi_of}
+use Rattle.dom_cells.specs.Box.{cell_of, start_at}
 use Rattle.dom_core.specs.declared.literal.Rel.TheVariants.{Ge}
 use Rattle.kind_law.proofs.ReasonLaws.{adds-push, high_fine, high_told, high_still}
 use Rattle.kind_law.proofs.reason.explain_high.Goals as goal

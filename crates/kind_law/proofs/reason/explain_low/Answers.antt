@@ -1,7 +1,7 @@
 use Rattle.std.proofs.Common.{rules, ◌≡◌, ◌∙◌, ap, ◌-ℤ◌, pos, [], ◌∷◌, ◌++◌, arith, FitsSigned, w64, to_z, of_z, ◌<ℤ◌}
 use Rattle.std.proofs.lemmas.Int.{ints}
-use Rattle.dom_core.specs.Cell.{lo_of}
-use Rattle.dom_core.specs.Box.{cell_of, start_at}
+use Rattle.dom_cells.specs.Cell.{lo_of}
+use Rattle.dom_cells.specs.Box.{cell_of, start_at}
 use Rattle.dom_core.specs.declared.literal.Rel.TheVariants.{Le}
 use Rattle.kind_law.proofs.ReasonLaws.{adds-push, low_fine, low_told}
 use Rattle.kind_law.proofs.reason.explain_low.Goals as goal

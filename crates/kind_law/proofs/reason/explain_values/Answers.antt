@@ -1,6 +1,6 @@
 use Rattle.std.proofs.Common.{rules, arith, FitsSigned, w64}
 use Rattle.std.proofs.lemmas.Int.{to_z-of_z}
-use Rattle.dom_core.specs.Box.{start_at}
+use Rattle.dom_cells.specs.Box.{start_at}
 use Rattle.kind_law.specs.Reason.{AddsFine, CoversValue}
 use Rattle.kind_law.proofs.ReasonLaws.{adds-more, listed_at, inside_from_values, values-step}
 use Rattle.kind_law.proofs.reason.explain_values.Goals as goal

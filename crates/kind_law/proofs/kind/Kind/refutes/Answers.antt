@@ -1,5 +1,5 @@
 use Rattle.std.proofs.Common.{◌∙◌, sym}
-use Rattle.dom_core.specs.Box.{cell_of}
+use Rattle.dom_cells.specs.Box.{cell_of}
 use Rattle.kind_law.proofs.BoundLaws.{never_met, box-sane}
 use Rattle.kind_law.proofs.kind.Kind.refutes.Goals as goal
 

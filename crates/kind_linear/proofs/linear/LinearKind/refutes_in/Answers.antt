@@ -1,5 +1,5 @@
 use Rattle.std.proofs.Common.{◌≡◌, ◌∙◌, ap, ◌<◌}
-use Rattle.dom_core.specs.Cell.{IsSane}
+use Rattle.dom_cells.specs.Cell.{IsSane}
 use Rattle.kind_linear.specs.Linear.{Form}
 use Rattle.kind_linear.specs.Sum.{vars_of}
 use Rattle.kind_linear.specs.SumLaws.{each_listed}

@@ -1,0 +1,5 @@
+pub mod BoxLaws
+pub mod CellLaws
+pub mod FlagLaws
+pub mod KeptLaws
+pub mod StackLaws

@@ -1,0 +1,14 @@
+use Rattle.std.proofs.Common.{rules, arith, FitsSigned, w64}
+use Rattle.std.proofs.lemmas.Int.{ints, to_z-of_z}
+use Rattle.dom_cells.proofs.CellLaws.{down_step}
+use Rattle.dom_cells.proofs.cell.Cell.step_down.Goals as goal
+
+pub returns : goal.returns
+returns c =
+    let lo_fits : FitsSigned w64 c.args.self.now.lo = search rules in
+    let hi_fits : FitsSigned w64 c.args.self.now.hi = search rules in
+    let v_fits : FitsSigned w64 c.args.literal.value = search rules in
+    let r_fits : FitsSigned w64 c.floor.result = search rules in
+    rw (to_z-of_z w64 c.args.self.now.lo lo_fits, to_z-of_z w64 c.floor.result r_fits, c.len.ensures)
+    (down_step c.args.self.now c.args.literal c.floor.result c.requires.sound c.requires.rel (omega (arith, ints)) (omega (arith, ints))
+    (rw (to_z-of_z w64 c.args.literal.value v_fits) at c.floor.ensures))

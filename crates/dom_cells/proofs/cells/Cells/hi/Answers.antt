@@ -1,0 +1,13 @@
+use Rattle.std.proofs.Common.{rules, ◌∙◌, sym, FitsSigned, w64}
+use Rattle.std.proofs.lemmas.Int.{to_z-of_z}
+use Rattle.dom_cells.proofs.StackLaws.{IsOpen, open_at, view-box}
+use Rattle.dom_cells.proofs.cells.Cells.hi.Goals as goal
+
+pub returns-clause-hi : goal.returns-clause-hi
+returns-clause-hi c =
+    let fits : FitsSigned w64 c.index-cell.result.now.hi = search rules in
+    let shown : IsOpen c.args.self.now c.args.var.0 c.index-cell.result.now = open_at c.self.inside c.args.self.now c.args.var.0 c.index-cell.result.now c.self.invariant c.self.view_is c.requires c.index-cell.ensures in
+    to_z-of_z w64 c.index-cell.result.now.hi fits ∙ sym shown.shows.hi
+
+pub returns-clause-sound : goal.returns-clause-sound
+returns-clause-sound c = view-box c.self.inside c.args.self.now c.self.invariant c.self.view_is

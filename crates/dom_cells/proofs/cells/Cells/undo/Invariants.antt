@@ -1,0 +1,12 @@
+use Rattle.std.proofs.Common.{◌≤◌, length}
+use Rattle.dom_cells.specs.Box.{Undone}
+use Rattle.dom_cells.proofs.cells.Cells.undo.Given as goal
+
+abbrev pub invariant-loop-mark : goal.invariant-loop-mark
+invariant-loop-mark l = record {
+  done : Undone l.fn.self (length l.self.literals) l.self;
+  within : l.fn.mark.changes ≤ length l.self.literals;
+}
+
+abbrev pub decreases-loop-mark : goal.decreases-loop-mark
+decreases-loop-mark l = length l.self.literals

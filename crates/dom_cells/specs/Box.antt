@@ -1,0 +1,77 @@
+-- Boxes: a cell for each variable, made of starts and the literals that cut them.
+use Rattle.std.specs.Prelude.{◌≡◌, ◌≤◌, ◌<◌, ◌+◌, ◌==◌, if◌then◌else◌, List, [], ◌∷◌, ◌++◌, length, map, take, ℕ, pos, slice_index_or}
+use Rattle.dom_cells.specs.Cell.{cut, Suits, IsSane, IsHeld, IsFalse, IsPossible, CanFail}
+use Rattle.dom_core.specs.Literal.{negation}
+use Rattle.dom_core.specs.declared.literal.Literal.{Literal}
+use Rattle.dom_cells.specs.declared.start.Start.{Start}
+use Rattle.dom_cells.specs.declared.start.Start.TheVariants.{Span}
+use Rattle.dom_cells.specs.declared.narrowed.Narrowed.{Narrowed}
+use Rattle.dom_cells.specs.declared.narrowed.Narrowed.TheVariants.{Same, Changed, Emptied}
+
+-- what contracts see of cells: their starts, the literals that cut them in order, and for how many more there
+-- is room
+pub record Trailed : Type 0 where
+  pub starts : List Start
+  pub literals : List Literal
+  pub spare : ℕ
+
+-- the start of the variable with this number
+abbrev pub start_at : List Start → ℕ → Start
+start_at starts v = slice_index_or starts v (Span (pos 0) (pos 0))
+
+-- the cell of the variable with this number, cut by the literal where that speaks of it
+abbrev pub cut_at : ℕ → Start → Literal → Start
+cut_at v c l = if v == l.var.0 then cut c l else c
+
+-- the box with one literal more
+abbrev pub kept : (ℕ → Start) → Literal → ℕ → Start
+kept b l v = cut_at v (b v) l
+
+-- the cell, cut by each literal in turn
+abbrev pub cut_all : ℕ → Start → List Literal → Start
+cut_all v c [] = c
+cut_all v c (l ∷ ls) = cut_all v (cut_at v c l) ls
+
+-- the cell of the variable with this number
+abbrev pub cell_of : Trailed → ℕ → Start
+cell_of m v = cut_all v (start_at m.starts v) m.literals
+
+-- the starts, cut by the negation of each literal
+abbrev pub against : Trailed → List Literal → ℕ → Start
+against m ls v = cut_all v (start_at m.starts v) (map negation ls)
+
+-- each literal on the variable may cut the cell
+abbrev pub AllSuit : ℕ → Start → List Literal → Type 0
+AllSuit v c [] = Unit {0}
+AllSuit v c (l ∷ ls) = (v ≡ l.var.0 → Suits c l.rel) × AllSuit v c ls
+
+-- each cell has a value, and only literals that may cut a start do
+pub record IsBox (m : Trailed) : Type 0 where
+  pub starts : (v : ℕ) → v < length m.starts → IsSane (start_at m.starts v)
+  pub cells : (v : ℕ) → v < length m.starts → IsSane (cell_of m v)
+  pub suit : (v : ℕ) → v < length m.starts → AllSuit v (start_at m.starts v) m.literals
+
+-- the literal was cut into the box
+pub record Cuts (old : Trailed) (l : Literal) (new : Trailed) : Type 0 where
+  pub starts : new.starts ≡ old.starts
+  pub literals : new.literals ≡ old.literals ++ l ∷ []
+  pub spare : new.spare + 1 ≡ old.spare
+
+-- what cutting by a literal answers: nothing to do where it holds of all values, nothing possible where it holds
+-- of none, and else the cell is cut
+abbrev pub IsNarrowed : Trailed → Literal → Narrowed → Trailed → Type 0
+IsNarrowed old l Same new = IsHeld (cell_of old l.var.0) l × (new ≡ old)
+IsNarrowed old l Emptied new = IsFalse (cell_of old l.var.0) l × (new ≡ old)
+IsNarrowed old l Changed new = IsPossible (cell_of old l.var.0) l × CanFail (cell_of old l.var.0) l × Cuts old l new
+
+-- the box as it was after so many literals
+pub record Undone (old : Trailed) (count : ℕ) (new : Trailed) : Type 0 where
+  pub starts : new.starts ≡ old.starts
+  pub literals : new.literals ≡ take count old.literals
+  pub spare : old.spare ≤ new.spare
+
+-- there is room for so many changes, and nothing else changed
+pub record HasRoom (old : Trailed) (more : ℕ) (new : Trailed) : Type 0 where
+  pub starts : new.starts ≡ old.starts
+  pub literals : new.literals ≡ old.literals
+  pub room : more ≤ new.spare

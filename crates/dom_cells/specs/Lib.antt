@@ -1,0 +1,9 @@
+pub mod Box
+pub mod Cell
+pub mod Flagged
+pub mod Stack
+pub use Rattle.dom_core.specs.Assignment
+pub use Rattle.dom_core.specs.Domain
+pub use Rattle.dom_core.specs.Ends
+pub use Rattle.dom_core.specs.Literal
+pub use Rattle.dom_core.specs.Rises

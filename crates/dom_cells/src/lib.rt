@@ -1,0 +1,22 @@
+//! Boxes: what every variable of a model has left, cut by literals and given back.
+#![tactic(auto)]
+
+mod cell;
+mod cells;
+mod flags;
+mod hulls;
+mod kept;
+mod mark;
+mod narrowed;
+mod region;
+mod start;
+#[cfg(test)]
+mod tests;
+
+pub use cells::Cells;
+pub use hulls::{Hulls, Point};
+pub use kept::Kept;
+pub use mark::Mark;
+pub use narrowed::Narrowed;
+pub use region::Region;
+pub use start::Start;

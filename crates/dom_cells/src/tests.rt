@@ -1,0 +1,98 @@
+ghost use Rattle.std.specs.Prelude.{◌≡◌, IfOk, length};
+
+use super::*;
+use dom_core::{Assignment, Domain, Interval, Intervals, Literal, Rel, VarId};
+use std::test::Fail;
+
+fn shared<T: Send + Sync>(_: &T) {}
+
+const X: VarId = VarId(0);
+
+const Y: VarId = VarId(1);
+
+/// Two variables: one with the values from 0 to 9, one with all integers from -5 to 5.
+fn two_cells(rt: &HostRuntime) -> Result<Cells, Fail>
+    ensures { IfOk result (λ c. length c.starts ≡ 2) }
+{
+    let domain = Domain::from_range(0, 9).ok().ok_or("no domain")?;
+    let starts = [Start::Values(domain), Start::Span { lo: -5, hi: 5 }];
+    Ok(Cells::new(rt.alloc(), &starts)?)
+}
+
+#[test]
+#[tactic(auto, using(crate::proofs::KeptLaws::suits_end))]
+fn cells_are_narrowed_and_undone(rt: HostRuntime) -> Result<(), Fail> {
+    let mut cells = two_cells(&rt)?;
+    cells.reserve(1)?;
+    shared(&cells);
+    assert_eq!(rt; (cells.lo(X), cells.hi(X), cells.has(Y, -5)), (0, 9, true));
+    let mark = cells.mark();
+    let low = Literal {
+        var: X,
+        rel: Rel::Ge,
+        value: 9,
+    };
+    assert!(rt; !cells.is_true(low) && !cells.is_false(low));
+    assert_eq!(rt; cells.narrow(low), Narrowed::Changed);
+    cells.undo(mark);
+    assert_eq!(rt; (cells.width(), cells.mark()), (2, mark));
+    Ok(())
+}
+
+#[test]
+fn a_cell_with_one_value_is_fixed(rt: HostRuntime) -> Result<(), Fail> {
+    let domain = Domain::from_values(rt.alloc(), [2, 4, 7].as_slice())
+        .ok()
+        .ok_or("no domain")?;
+    let starts = [Start::Values(domain), Start::Span { lo: 3, hi: 3 }];
+    let cells = Cells::new(rt.alloc(), &starts)?;
+    assert_eq!(rt; (cells.fixed(X), cells.fixed(Y)), (None, Some(3)));
+    assert_eq!(rt; (cells.has(X, 3), cells.has(X, 4)), (false, true));
+    assert_eq!(rt; (cells.start(X).lo(), cells.start(X).hi()), (2, 7));
+    assert_eq!(rt; cells.spare(), 0);
+    Ok(())
+}
+
+#[test]
+fn the_next_values_of_a_cell_pass_over_its_gaps(rt: HostRuntime) -> Result<(), Fail> {
+    let domain = Domain::from_values(rt.alloc(), [2, 4, 7].as_slice())
+        .ok()
+        .ok_or("no domain")?;
+    let cells = Cells::new(rt.alloc(), &[Start::Values(domain)])?;
+    if cells.lo(X) < 5 && 5 < cells.hi(X) {
+        assert_eq!(rt; (cells.floor(X, 5), cells.ceiling(X, 5)), (4, 7));
+        return Ok(());
+    }
+    Err("no values on both sides".into())
+}
+
+#[test]
+fn a_box_is_read_through_one_bound_more(rt: HostRuntime) -> Result<(), Fail> {
+    let cells = two_cells(&rt)?;
+    let literal = Literal {
+        var: X,
+        rel: Rel::Le,
+        value: 4,
+    };
+    let kept = Kept {
+        cells: &cells,
+        literal,
+    };
+    shared(&kept);
+    assert_eq!(rt; (cells.lo(X), cells.hi(X)), (0, 9));
+    assert_eq!(rt; (kept.literal.at(4), kept.literal.at(5)), (true, false));
+    assert_eq!(rt;
+        (kept.has(X, 4), kept.has(X, 5), kept.has(Y, 5)),
+        (true, false, true)
+    );
+    Ok(())
+}
+
+#[test]
+fn intervals_of_an_assignment_have_its_values_alone(rt: HostRuntime) -> Result<(), Fail> {
+    let mut a = Assignment::zeros(rt.alloc(), 2)?;
+    a.set(Y, 7);
+    assert_eq!(rt; Point(&a).interval(X), Interval::new(0, 0));
+    assert_eq!(rt; Point(&a).interval(Y), Interval::new(7, 7));
+    Ok(())
+}

@@ -1,9 +1,0 @@
-use Rattle.std.proofs.Common.{◌≡◌, map, take, []}
-use Rattle.dom_core.specs.Stack.{start_of, AllCut}
-use Rattle.dom_core.proofs.cells.Cells.new.Given as goal
-
-abbrev pub invariant-loop-start : goal.invariant-loop-start
-invariant-loop-start l = record {
-  starts : map start_of l.cells.items ≡ take l.start-index l.starts;
-  cut : AllCut [] l.cells.items;
-}
