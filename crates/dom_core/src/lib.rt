@@ -33,4 +33,4 @@ pub use std::alloc::AllocError as NoMemory;
 pub use values::Values;
 pub use var_id::VarId;
 pub use vars::Vars;
-pub use view::{After, Before, Changes, View};
+pub use view::{After, Before, Changes, Movement, View};

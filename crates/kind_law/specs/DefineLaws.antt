@@ -10,6 +10,10 @@ use Rattle.dom_core.specs.declared.var_id.VarId.{VarId}
 use Rattle.dom_core.specs.declared.view.Movement.{Movement}
 use Rattle.kind_law.specs.Laws.{Each, AreWithin, EndsIn, Covers}
 
+-- the output is none of the inputs
+abbrev pub ApartLaw : VarId → List VarId → Type 0
+ApartLaw output inputs = Each (λ u. u.0 ≡ output.0 → ⊥) inputs
+
 -- the kind is met exactly where the output has the value that the inputs give
 abbrev pub ValueLaw : VarId → (List ℤ → ℤ) → (List ℤ → Bool) → Type 0
 ValueLaw output given met = (a : List ℤ) → met a ≡ int_eq (value_at a output) (given a)

@@ -1,4 +1,6 @@
 pub mod DefineLaws
+pub mod Function
+pub mod FunctionLaws
 pub mod Laws
 pub mod Next
 pub mod Reason

@@ -12,7 +12,10 @@ pub trait Define: Kind {
     ghost use Rattle.dom_core.specs.declared.var_id.VarId.{VarId};
     ghost use Rattle.dom_core.specs.declared.view.Movement.{Movement};
     ghost use Rattle.kind_law.specs.Laws.{Each, AllBelow, points, befores, afters, IsTrueChange};
-    ghost use Rattle.kind_law.specs.DefineLaws.{ValueLaw, InputLaw, RangeLaw, MonotoneLaw, ChangeLaw, FixesLaw};
+    ghost use Rattle.kind_law.specs.DefineLaws.{ApartLaw, ValueLaw, InputLaw, RangeLaw, MonotoneLaw, ChangeLaw, FixesLaw};
+
+    /// It has a functional shape: its output is a variable, and none of its inputs.
+    ghost functional: { Self → Type 0 };
 
     /// The variable that it defines.
     ghost output: { Self → VarId };
@@ -33,6 +36,7 @@ pub trait Define: Kind {
     ghost changed: { Self → List Movement → Ends };
 
     fn output(&self) -> VarId
+        requires { functional self.now }
         ensures { result ≡ output self.now };
 
     fn value(&self, a: &Assignment) -> i64
@@ -54,8 +58,11 @@ pub trait Define: Kind {
         requires change { Each (λ u. IsTrueChange (movement_at view.now u.0)) (inputs self.now) }
         ensures { result ≡ changed self.now view.now };
 
+    /// The output is none of the inputs.
+    ghost apart_law: { (k : Self) → functional k → ApartLaw (output k) (inputs k) };
+
     /// The kind is met exactly where the output has the value that the inputs give.
-    ghost value_law: { (k : Self) → ValueLaw (output k) (given k) (Self.met k) };
+    ghost value_law: { (k : Self) → functional k → ValueLaw (output k) (given k) (Self.met k) };
 
     /// The value reads the inputs alone.
     ghost input_law: { (k : Self) → InputLaw (inputs k) (given k) };
@@ -70,5 +77,5 @@ pub trait Define: Kind {
     ghost change_law: { (k : Self) → ChangeLaw (inputs k) (given k) (changed k) };
 
     /// Where the inputs are fixed, the box is refuted exactly where the output's interval doesn't hold their value.
-    ghost fixes_law: { (k : Self) → FixesLaw (output k) (inputs k) (given k) (Self.refuted k) };
+    ghost fixes_law: { (k : Self) → functional k → FixesLaw (output k) (inputs k) (given k) (Self.refuted k) };
 }

@@ -3,6 +3,7 @@
 
 mod change;
 mod define;
+mod function;
 mod kind;
 mod next;
 mod propagate;
@@ -11,6 +12,7 @@ mod side;
 
 pub use change::{are_still, change_by};
 pub use define::Define;
+pub use function::{are_apart, is_function_kept};
 pub use kind::Kind;
 pub use next::next_of;
 pub use propagate::Propagate;

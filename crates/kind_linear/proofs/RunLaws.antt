@@ -1,9 +1,9 @@
 -- Sums and lists that are made term by term.
-use Rattle.std.proofs.Common.{◌≡◌, ℕ, ◌+◌, ◌<◌, ◌≤◌, ◌^◌, List, [], ◌∷◌, length, drop, get_or, ℤ, pos, ◌+ℤ◌, unsigned_abs, FitsSigned, refl, sym, ◌∙◌, ap, arith}
+use Rattle.std.proofs.Common.{◌≡◌, ℕ, ◌+◌, ◌<◌, ◌≤◌, ◌^◌, List, [], ◌∷◌, length, drop, get_or, ℤ, pos, ◌+ℤ◌, unsigned_abs, FitsSigned, w64, ◌-ℤ◌, refl, sym, ◌∙◌, ap, arith}
 use Rattle.std.proofs.lemmas.Int.{ints}
 use Rattle.std.proofs.lemmas.List.{drop_more}
 use Rattle.std.specs.Int.{w128}
-use Rattle.dom_core.specs.Ends.{Ends, only, sum_ends, scaled_ends}
+use Rattle.dom_core.specs.Ends.{Ends, only, sum_ends, scaled_ends, difference_ends}
 use Rattle.dom_core.specs.declared.arg.Arg.{Arg}
 use Rattle.dom_core.specs.declared.arg.Arg.TheVariants.{Var, Const}
 use Rattle.dom_core.specs.declared.var_id.VarId.{VarId}
@@ -82,3 +82,26 @@ vars-step P ts i d lt h =
 pub collected-arg : (seen : List VarId) (x : Arg) (vs : List VarId) → collected seen (with_arg x vs) ≡ collected (with_new_arg seen x) vs
 collected-arg seen (Var x) vs = refl
 collected-arg seen (Const c) vs = refl
+
+-- a number of 64 bits and the ends of an interval of few bits differ by no more than a machine can hold
+pub fits_near : (b : ℤ) (e : Ends) → FitsSigned w64 b → size_of e ≤ 2 ^ 101 → FitsSigned w128 (b -ℤ e.hi) × FitsSigned w128 (b -ℤ e.lo)
+fits_near b e f h =
+    let lo : unsigned_abs e.lo ≤ 2 ^ 101 = omega arith in
+    let hi : unsigned_abs e.hi ≤ 2 ^ 101 = omega arith in
+    (omega (arith, ints), omega (arith, ints))
+
+pub near_size : (b : ℤ) (e : Ends) → FitsSigned w64 b → size_of e ≤ 2 ^ 101 → size_of (difference_ends (only b) e) ≤ 2 ^ 102
+near_size b e f h =
+    let lo : unsigned_abs e.lo ≤ 2 ^ 101 = omega arith in
+    let hi : unsigned_abs e.hi ≤ 2 ^ 101 = omega arith in
+    let p : unsigned_abs (b -ℤ e.hi) ≤ 2 ^ 102 = omega (arith, ints) in
+    let q : unsigned_abs (b -ℤ e.lo) ≤ 2 ^ 102 = omega (arith, ints) in
+    omega arith
+
+pub difference_fits : (a b : Ends) → size_of a ≤ 2 ^ 102 → size_of b ≤ 2 ^ 102 → FitsSigned w128 (a.lo -ℤ b.hi) × FitsSigned w128 (a.hi -ℤ b.lo)
+difference_fits a b h g =
+    let p : unsigned_abs a.lo ≤ 2 ^ 102 = omega arith in
+    let q : unsigned_abs a.hi ≤ 2 ^ 102 = omega arith in
+    let r : unsigned_abs b.lo ≤ 2 ^ 102 = omega arith in
+    let s : unsigned_abs b.hi ≤ 2 ^ 102 = omega arith in
+    (omega (arith, ints), omega (arith, ints))

@@ -22,7 +22,7 @@ form_vars k = distinct (vars_of k.terms)
 
 -- its terms stay small over these intervals
 abbrev pub FormFits : Form → (ℕ → Ends) → Type 0
-FormFits k s = magnitude k.terms (arg_ends s) ≤ 2 ^ 100
+FormFits k s = magnitude k.terms (arg_ends s) ≤ 2 ^ 101
 
 -- the sum stands in the relation to the bound
 abbrev pub form_met : Form → List ℤ → Bool

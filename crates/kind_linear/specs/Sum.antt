@@ -38,6 +38,11 @@ abbrev pub ArgHas : (VarId → Type 0) → Arg → Type 0
 ArgHas P (Var x) = P x
 ArgHas P (Const c) = Unit {0}
 
+-- the argument's variable, or the first one for a constant
+abbrev pub var_of : Arg → VarId
+var_of (Var x) = x
+var_of (Const c) = record { 0 = 0 }
+
 -- the sum of the terms under intervals of their arguments
 abbrev pub total : List Term → (Arg → Ends) → Ends
 total [] f = only (pos 0)

@@ -160,6 +160,21 @@ total_point (t ∷ ts) a =
     ap (λ (e : Ends). sum_ends e (total ts (arg_span Values (λ v. only (entry_at a v))))) (ap (scaled_ends t.coef) (point_arg t.arg a) ∙ scaled_only t.coef (arg_value a t.arg))
     ∙ ap (sum_ends (only (t.coef *ℤ arg_value a t.arg))) (total_point ts a)
 
+-- ---- how large sums are
+
+added_size : (a b : Ends) → size_of (sum_ends a b) ≤ size_of a + size_of b
+added_size a b = omega (arith, ints)
+
+grown : (a b c d : ℕ) → a ≤ b + c → c ≤ d → a ≤ b + d
+grown a b c d h g = omega arith
+
+-- a sum is no larger than its terms together
+pub total_size : (ts : List Term) (f : Arg → Ends) → size_of (total ts f) ≤ magnitude ts f
+total_size [] f = omega arith
+total_size (t ∷ ts) f =
+    grown (size_of (total (t ∷ ts) f)) (size_of (scaled_ends t.coef (f t.arg))) (size_of (total ts f)) (magnitude ts f)
+    (added_size (scaled_ends t.coef (f t.arg)) (total ts f)) (total_size ts f)
+
 -- ---- how large changes are
 
 same_interval : (a b : Ends) → a.lo ≡ b.lo → a.hi ≡ b.hi → a ≡ b

@@ -2,11 +2,14 @@
 #![tactic(auto)]
 
 mod linear;
+mod output;
 mod relation;
 mod term;
 #[cfg(test)]
 mod tests;
 mod total;
+mod vars;
 
 pub use linear::Linear;
+pub use output::LinearOutput;
 pub use relation::Relation;

@@ -1,10 +1,12 @@
 //! Linear relations.
 ghost use Rattle.std.specs.Prelude.{◌≡◌, IfOk, length};
 ghost use Rattle.kind_linear.specs.Sum.{terms_of};
+ghost use Rattle.kind_linear.specs.Output.{can_define};
 
-use crate::relation::{Relation, is_kept, is_met, is_refuted};
-use crate::term::{Reading, Term, distinct_vars, pair_up};
+use crate::relation::{Relation, is_equality, is_kept, is_met, is_refuted};
+use crate::term::{Reading, Term, is_unit, pair_up};
 use crate::total::total_of;
+use crate::vars::{distinct_vars, is_alone};
 use dom_cells::{Cells, Hulls, Point, Region};
 use dom_core::{After, Arg, Assignment, Changes, Clause, Literal, VarId, View};
 use kind_law::{Kind, Propagate, next_of, reason_of};
@@ -51,6 +53,33 @@ impl Linear {
             bound,
             vars,
         })
+    }
+
+    /// The terms of the sum.
+    pub(crate) fn terms(&self) -> &[Term]
+        ensures { result.now ≡ self.now.terms }
+    {
+        self.terms.as_slice()
+    }
+
+    pub(crate) fn bound(&self) -> i64
+        ensures { result ≡ self.now.bound }
+    {
+        self.bound
+    }
+
+    /// Whether the relation is an equation in which the variable at this place occurs once, with the coefficient 1 or
+    /// -1, so that the equation can be solved for it.
+    pub fn can_define(&self, place: usize) -> bool
+        ensures { result ≡ can_define self.now place }
+    {
+        if !is_equality(self.relation) {
+            return false;
+        }
+        match self.terms.get(place) {
+            None => false,
+            Some(own) => is_unit(own.coef) && is_alone(own.arg, self.terms.as_slice(), place),
+        }
     }
 }
 

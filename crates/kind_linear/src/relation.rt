@@ -1,6 +1,7 @@
 //! How a sum is compared with a number.
 ghost use Rattle.std.specs.Prelude.{◌≡◌};
 ghost use Rattle.kind_linear.specs.Relation.{is_related, refuted_by, kept_by, is_only_value};
+ghost use Rattle.kind_linear.specs.Output.{is_equality};
 
 use dom_core::Interval;
 
@@ -53,4 +54,15 @@ fn is_only(interval: Interval, value: i128) -> bool
     ensures { result ≡ is_only_value interval value }
 {
     interval.lo() == value && interval.hi() == value
+}
+
+/// Whether the sum is to be equal.
+pub(crate) fn is_equality(relation: Relation) -> bool
+    ensures { result ≡ is_equality relation }
+{
+    match relation {
+        Relation::AtMost => false,
+        Relation::Equal => true,
+        Relation::Differ => false,
+    }
 }

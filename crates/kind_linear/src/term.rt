@@ -1,6 +1,7 @@
 //! Terms of a sum.
-ghost use Rattle.std.specs.Prelude.{◌≡◌, ◌<◌, IfOk, OnOk, length};
-ghost use Rattle.kind_linear.specs.Sum.{arg_span, constant_span, ArgHas, terms_of, vars_of, distinct, is_listed, with_new_arg};
+ghost use Rattle.std.specs.Prelude.{◌≡◌, ◌<◌, IfOk, length};
+ghost use Rattle.kind_linear.specs.Sum.{arg_span, constant_span, ArgHas, terms_of, var_of};
+ghost use Rattle.kind_linear.specs.Output.{is_unit};
 
 use dom_core::{Arg, Interval, Intervals, VarId};
 use std::alloc::{AllocError, Global};
@@ -57,36 +58,19 @@ pub(crate) fn pair_up(alloc: Global, coefs: &[i64], args: &[Arg]) -> Result<Vec<
     Ok(terms)
 }
 
-/// The variables of the terms, each once, in the order in which they come first.
-pub(crate) fn distinct_vars(alloc: Global, terms: &[Term]) -> Result<Vec<VarId>, AllocError>
-    ensures { IfOk result (λ v. v.items ≡ distinct (vars_of terms.now)) }
-{
-    let mut vars = Vec::new(alloc);
-    for term in terms {
-        add_new(&mut vars, term.arg)?;
-    }
-    Ok(vars)
-}
-
-/// Puts the argument's variable at the end, unless it is a constant or stands in the list.
-fn add_new(vars: &mut Vec<VarId>, arg: Arg) -> Result<(), AllocError>
-    ensures { OnOk result (vars.new.items ≡ with_new_arg vars.old.items arg) }
+/// The argument's variable, or the first one for a constant.
+pub(crate) fn var_of(arg: Arg) -> VarId
+    ensures { result ≡ var_of arg }
 {
     match arg {
-        Arg::Const(_) => Ok(()),
-        Arg::Var(var) => {
-            if is_among(vars.as_slice(), var) {
-                return Ok(());
-            }
-            vars.push(var)?;
-            Ok(())
-        }
+        Arg::Var(var) => var,
+        Arg::Const(_) => VarId(0),
     }
 }
 
-/// Whether the variable stands in the list.
-fn is_among(vars: &[VarId], var: VarId) -> bool
-    ensures { result ≡ is_listed var vars.now }
+/// Whether the coefficient is 1 or -1.
+pub(crate) fn is_unit(coef: i64) -> bool
+    ensures { result ≡ is_unit coef }
 {
-    vars.iter().any(|v| v.0 == var.0)
+    coef == 1 || coef == -1
 }

@@ -1,6 +1,6 @@
 use Rattle.std.proofs.Common.{◌≡◌, drop}
 use Rattle.kind_linear.specs.Sum.{vars_of, collected, distinct}
-use Rattle.kind_linear.proofs.term.distinct_vars.Given as goal
+use Rattle.kind_linear.proofs.vars.distinct_vars.Given as goal
 
 abbrev pub invariant-loop-term : goal.invariant-loop-term
 invariant-loop-term l = collected l.vars.items (vars_of (drop l.term-index l.terms)) ≡ distinct (vars_of l.terms)

@@ -1,0 +1,28 @@
+use Rattle.std.proofs.Common.{◌≡◌, ◌∙◌, ap, ◌<◌, ◌≤◌, ◌+◌, ◌^◌, arith}
+use Rattle.dom_core.specs.Ends.{difference_ends}
+use Rattle.kind_law.specs.Laws.{EndsIn, befores, afters, changes}
+use Rattle.kind_linear.specs.Output.{rest_of, inputs_of}
+use Rattle.kind_linear.specs.Sum.{arg_span, magnitude, vars_of}
+use Rattle.kind_linear.specs.SumLaws.{each_listed, each_unit, magnitude_change}
+use Rattle.kind_linear.specs.declared.term.Reading.TheVariants.{Values, Changes}
+use Rattle.kind_linear.proofs.RunLaws.{difference_fits}
+use Rattle.kind_linear.proofs.output.LinearOutputDefine.change.Goals as goal
+
+pub rest_total-sum-requires-clause-fits : goal.rest_total-sum-requires-clause-fits
+rest_total-sum-requires-clause-fits c =
+    let m : magnitude (rest_of c.args.self.now) (arg_span Changes (changes c.args.view.now)) ≤ magnitude (rest_of c.args.self.now) (arg_span Values (afters c.args.view.now)) + magnitude (rest_of c.args.self.now) (arg_span Values (befores c.args.view.now)) =
+    magnitude_change (rest_of c.args.self.now) (changes c.args.view.now) (afters c.args.view.now) (befores c.args.view.now)
+    (each_listed (λ u. EndsIn (changes c.args.view.now u.0) (difference_ends (afters c.args.view.now u.0) (befores c.args.view.now u.0))) (vars_of (rest_of c.args.self.now)) c.requires.change) in
+    omega (arith, m, c.requires.before, c.requires.after)
+
+pub solve-before-requires-clause-ready : goal.solve-before-requires-clause-ready
+solve-before-requires-clause-ready c = each_unit (inputs_of c.args.self.now)
+
+pub solve-after-requires-clause-ready : goal.solve-after-requires-clause-ready
+solve-after-requires-clause-ready c = each_unit (inputs_of c.args.self.now)
+
+pub change_by-requires-clause-low : goal.change_by-requires-clause-low
+change_by-requires-clause-low c = (difference_fits c.solve-after.result c.solve-before.result c.solve-after.ensures.bits c.solve-before.ensures.bits).0
+
+pub change_by-requires-clause-high : goal.change_by-requires-clause-high
+change_by-requires-clause-high c = (difference_fits c.solve-after.result c.solve-before.result c.solve-after.ensures.bits c.solve-before.ensures.bits).1

@@ -1,0 +1,86 @@
+//! The variables of terms.
+ghost use Rattle.std.specs.Prelude.{◌≡◌, ◌<◌, IfOk, OnOk, length};
+ghost use Rattle.kind_linear.specs.Sum.{vars_of, distinct, is_listed, with_new_arg};
+ghost use Rattle.kind_linear.specs.Output.{is_alone, is_read_by, others_at};
+
+use crate::term::Term;
+use dom_core::{Arg, VarId};
+use std::alloc::{AllocError, Global};
+
+/// The variables of the terms, each once, in the order in which they come first.
+pub(crate) fn distinct_vars(alloc: Global, terms: &[Term]) -> Result<Vec<VarId>, AllocError>
+    ensures { IfOk result (λ v. v.items ≡ distinct (vars_of terms.now)) }
+{
+    let mut vars = Vec::new(alloc);
+    for term in terms {
+        add_new(&mut vars, term.arg)?;
+    }
+    Ok(vars)
+}
+
+/// Puts the argument's variable at the end, unless it is a constant or stands in the list.
+fn add_new(vars: &mut Vec<VarId>, arg: Arg) -> Result<(), AllocError>
+    ensures { OnOk result (vars.new.items ≡ with_new_arg vars.old.items arg) }
+{
+    match arg {
+        Arg::Const(_) => Ok(()),
+        Arg::Var(var) => {
+            if is_among(vars.as_slice(), var) {
+                return Ok(());
+            }
+            vars.push(var)?;
+            Ok(())
+        }
+    }
+}
+
+/// Whether the variable stands in the list.
+fn is_among(vars: &[VarId], var: VarId) -> bool
+    ensures { result ≡ is_listed var vars.now }
+{
+    vars.iter().any(|v| v.0 == var.0)
+}
+
+/// The terms but for the one at the place.
+pub(crate) fn terms_but(alloc: Global, terms: &[Term], place: usize) -> Result<Vec<Term>, AllocError>
+    requires { place < length terms.now }
+    ensures { IfOk result (λ v. v.items ≡ others_at terms.now place) }
+{
+    let mut others = Vec::new(alloc);
+    others.extend_from_slice(&terms[..place])?;
+    others.extend_from_slice(&terms[place + 1..])?;
+    Ok(others)
+}
+
+/// Whether the argument is a variable that no term but the one at the place has.
+pub(crate) fn is_alone(arg: Arg, terms: &[Term], place: usize) -> bool
+    requires { place < length terms.now }
+    ensures { result ≡ is_alone arg (others_at terms.now place) }
+{
+    match arg {
+        Arg::Const(_) => false,
+        Arg::Var(var) => !is_read(var, &terms[..place]) && !is_read(var, &terms[place + 1..]),
+    }
+}
+
+/// Whether a term has the variable.
+fn is_read(var: VarId, terms: &[Term]) -> bool
+    ensures { result ≡ is_listed var (vars_of terms.now) }
+{
+    for term in terms {
+        if is_on(term.arg, var) {
+            return true;
+        }
+    }
+    false
+}
+
+/// Whether the argument is the variable.
+fn is_on(arg: Arg, var: VarId) -> bool
+    ensures { result ≡ is_read_by arg var }
+{
+    match arg {
+        Arg::Const(_) => false,
+        Arg::Var(own) => own.0 == var.0,
+    }
+}
