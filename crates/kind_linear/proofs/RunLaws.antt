@@ -1,6 +1,6 @@
 -- Sums and lists that are made term by term.
-use Rattle.std.proofs.Common.{◌≡◌, ℕ, ◌+◌, ◌<◌, ◌≤◌, ◌^◌, List, [], ◌∷◌, length, drop, get_or, ℤ, pos, ◌+ℤ◌, unsigned_abs, FitsSigned, w64, ◌-ℤ◌, refl, sym, ◌∙◌, ap, arith}
-use Rattle.std.proofs.lemmas.Int.{ints}
+use Rattle.std.proofs.Common.{◌≡◌, ℕ, ◌+◌, ◌<◌, ◌≤◌, ◌^◌, List, [], ◌∷◌, length, drop, get_or, ℤ, pos, ◌+ℤ◌, unsigned_abs, FitsSigned, w64, to_z, of_z, ◌-ℤ◌, ◌≤ℤ◌, refl, sym, ◌∙◌, ap, arith}
+use Rattle.std.proofs.lemmas.Int.{ints, to_z-of_z}
 use Rattle.std.proofs.lemmas.List.{drop_more}
 use Rattle.std.specs.Int.{w128}
 use Rattle.dom_core.specs.Ends.{Ends, only, sum_ends, scaled_ends, difference_ends}
@@ -105,3 +105,16 @@ difference_fits a b h g =
     let r : unsigned_abs b.lo ≤ 2 ^ 102 = omega arith in
     let s : unsigned_abs b.hi ≤ 2 ^ 102 = omega arith in
     (omega (arith, ints), omega (arith, ints))
+
+pub few_bits : (e : Ends) → size_of e ≤ 2 ^ 1 → size_of e ≤ 2 ^ 102
+few_bits e h = omega arith
+
+-- a difference that a machine computes
+pub cast_difference : (x y a b : ℤ) → FitsSigned w128 x → FitsSigned w128 y → x ≡ a → y ≡ b → FitsSigned w128 (a -ℤ b)
+    → to_z w128 (of_z w128 (to_z w128 (of_z w128 x) -ℤ to_z w128 (of_z w128 y))) ≡ (a -ℤ b)
+cast_difference x y a b f g e h fits =
+    ap (λ (z : ℤ). to_z w128 (of_z w128 (z -ℤ to_z w128 (of_z w128 y)))) (to_z-of_z w128 x f ∙ e)
+    ∙ ap (λ (z : ℤ). to_z w128 (of_z w128 (a -ℤ z))) (to_z-of_z w128 y g ∙ h) ∙ to_z-of_z w128 (a -ℤ b) fits
+
+pub difference_order : (a b : Ends) → a.lo ≤ℤ a.hi → b.lo ≤ℤ b.hi → (a.lo -ℤ b.hi) ≤ℤ (a.hi -ℤ b.lo)
+difference_order a b h g = omega (arith, ints)

@@ -3,6 +3,8 @@ pub mod Linear
 pub mod LinearLaws
 pub mod Output
 pub mod OutputLaws
+pub mod Reified
+pub mod ReifiedLaws
 pub mod Relation
 pub mod Sum
 pub mod SumLaws
@@ -10,3 +12,4 @@ pub use Rattle.dom_core.specs.Ends
 pub use Rattle.dom_core.specs.Assignment
 pub use Rattle.kind_law.specs.Laws
 pub use Rattle.kind_law.specs.DefineLaws
+pub use Rattle.kind_law.specs.Function

@@ -72,7 +72,7 @@ refuted_only Equal s c = ap not (same_test (lies_in c (only s)) (int_eq s c)
     (λ h. (let e : s ≡ c = int_eq_same s c h in lies c (only s) (omega (arith, ints)) (omega (arith, ints)))))
 refuted_only Differ s c = doubled (int_eq s c)
 
-only_one : (e : Ends) (x c : ℤ) → lies_in x e ≡ true → is_only_value e c ≡ true → x ≡ c
+pub only_one : (e : Ends) (x c : ℤ) → lies_in x e ≡ true → is_only_value e c ≡ true → x ≡ c
 only_one e x c h o =
     let a : e.lo ≡ c = int_eq_same e.lo c (and_first (int_eq e.lo c) (int_eq e.hi c) o) in
     let b : e.hi ≡ c = int_eq_same e.hi c (and_second (int_eq e.lo c) (int_eq e.hi c) o) in

@@ -21,6 +21,12 @@ refuted_by AtMost t c = int_lt c t.lo
 refuted_by Equal t c = not (lies_in c t)
 refuted_by Differ t c = is_only_value t c
 
+-- each sum of the interval stands in the relation
+abbrev pub certain_by : Relation → Ends → ℤ → Bool
+certain_by AtMost t c = int_le t.hi c
+certain_by Equal t c = is_only_value t c
+certain_by Differ t c = not (lies_in c t)
+
 -- the relation stays where the sum changes so and lies there afterwards
 abbrev pub kept_by : Relation → Ends → Ends → ℤ → Bool
 kept_by AtMost change after c = int_le change.hi (pos 0) || int_le after.hi c

@@ -11,7 +11,7 @@ use Rattle.dom_core.specs.declared.var_id.VarId.{VarId}
 use Rattle.dom_core.proofs.RisesLaws.{or_true}
 use Rattle.dom_core.proofs.ProductLaws.{pos_suc-times, neg_one-times, neg_suc-times, scaled_part, scaled_ordered}
 use Rattle.kind_law.specs.Laws.{Each, EndsIn}
-use Rattle.kind_linear.specs.Sum.{arg_span, arg_value, ArgHas, total, sum_at, size_of, magnitude, with_arg, vars_of, is_listed, with_new, collected, distinct}
+use Rattle.kind_linear.specs.Sum.{arg_span, arg_value, ArgHas, total, sum_at, size_of, magnitude, with_arg, vars_of, is_listed, with_new, with_new_arg, collected, distinct}
 use Rattle.kind_linear.specs.declared.term.Reading.{Reading}
 use Rattle.kind_linear.specs.declared.term.Reading.TheVariants.{Values, Changes}
 use Rattle.kind_linear.specs.declared.term.Term.{Term}
@@ -63,6 +63,11 @@ each_listed P vs h = (collected-each P [] vs h).1
 
 pub each_distinct : (P : VarId → Type 0) (vs : List VarId) → Each P vs → Each P (distinct vs)
 each_distinct P vs h = each-collected P [] vs tt h
+
+-- what holds of the variables with the argument's holds of them and of it
+pub each_new_arg : (P : VarId → Type 0) (vs : List VarId) (x : Arg) → Each P (with_new_arg vs x) → Each P vs × ArgHas P x
+each_new_arg P vs (Var u) h = each-old P vs u h
+each_new_arg P vs (Const c) h = (h, tt)
 
 split_arg : (P : VarId → Type 0) (x : Arg) (vs : List VarId) → Each P (with_arg x vs) → ArgHas P x × Each P vs
 split_arg P (Var x) vs h = h

@@ -3,6 +3,7 @@
 
 mod linear;
 mod output;
+mod reified;
 mod relation;
 mod term;
 #[cfg(test)]
@@ -12,4 +13,5 @@ mod vars;
 
 pub use linear::Linear;
 pub use output::LinearOutput;
+pub use reified::LinearReified;
 pub use relation::Relation;

@@ -3,12 +3,12 @@ ghost use Rattle.std.specs.Prelude.{◌≡◌, IfOk, length};
 ghost use Rattle.kind_linear.specs.Sum.{terms_of};
 ghost use Rattle.kind_linear.specs.Output.{can_define};
 
-use crate::relation::{Relation, is_equality, is_kept, is_met, is_refuted};
+use crate::relation::{Relation, is_equality, is_kept, is_met, is_refuted, truth_over};
 use crate::term::{Reading, Term, is_unit, pair_up};
 use crate::total::total_of;
 use crate::vars::{distinct_vars, is_alone};
 use dom_cells::{Cells, Hulls, Point, Region};
-use dom_core::{After, Arg, Assignment, Changes, Clause, Literal, VarId, View};
+use dom_core::{After, Arg, Assignment, Changes, Clause, Interval, Intervals, Literal, VarId, View};
 use kind_law::{Kind, Propagate, next_of, reason_of};
 use std::alloc::{AllocError, Global};
 use std::marker::Model;
@@ -34,6 +34,13 @@ impl Model for Linear {
 }
 
 impl Linear {
+    ghost use Rattle.std.specs.Prelude.{◌≡◌, ◌<◌, ◌≤◌, ◌^◌};
+    ghost use Rattle.kind_law.specs.Laws.{Each};
+    ghost use Rattle.kind_linear.specs.Linear.{form_vars};
+    ghost use Rattle.kind_linear.specs.Output.{HasBits};
+    ghost use Rattle.kind_linear.specs.Reified.{truth_over};
+    ghost use Rattle.kind_linear.specs.Sum.{arg_span, total, magnitude};
+
     /// The relation of the sum of the arguments, each times its coefficient, to the bound.
     pub fn new(
         alloc: Global,
@@ -66,6 +73,30 @@ impl Linear {
         ensures { result ≡ self.now.bound }
     {
         self.bound
+    }
+
+    pub(crate) fn relation(&self) -> Relation
+        ensures { result ≡ self.now.relation }
+    {
+        self.relation
+    }
+
+    /// The sum under intervals.
+    pub(crate) fn total<I: Intervals>(&self, reading: Reading, intervals: &I) -> Interval
+        requires below { Each (λ u. u.0 < I.width intervals.now) (form_vars self.now) }
+        requires ready { Each (λ u. I.ready intervals.now u.0) (form_vars self.now) }
+        requires fits { magnitude self.now.terms (arg_span reading (I.spans intervals.now)) ≤ 2 ^ 102 }
+        ensures { result ≡ total self.now.terms (arg_span reading (I.spans intervals.now)) }
+    {
+        total_of(self.terms.as_slice(), reading, intervals)
+    }
+
+    /// The truths of sums within the interval.
+    pub(crate) fn truth(&self, total: Interval) -> Interval
+        ensures truth { result ≡ truth_over self.now total }
+        ensures bits { HasBits 1 result }
+    {
+        truth_over(self.relation, total, self.bound)
     }
 
     /// Whether the relation is an equation in which the variable at this place occurs once, with the coefficient 1 or
@@ -109,18 +140,18 @@ impl Kind for Linear {
     }
 
     fn holds(&self, a: &Assignment) -> bool {
-        let sum = total_of(self.terms.as_slice(), Reading::Values, &Point(a));
+        let sum = self.total(Reading::Values, &Point(a));
         is_met(self.relation, sum.lo(), self.bound)
     }
 
     fn keeps(&self, view: &View) -> bool {
-        let change = total_of(self.terms.as_slice(), Reading::Changes, &Changes(view));
-        let after = total_of(self.terms.as_slice(), Reading::Values, &After(view));
+        let change = self.total(Reading::Changes, &Changes(view));
+        let after = self.total(Reading::Values, &After(view));
         is_kept(self.relation, change, after, self.bound)
     }
 
     fn refutes_in<R: Region>(&self, cells: &R) -> bool {
-        let total = total_of(self.terms.as_slice(), Reading::Values, &Hulls(cells));
+        let total = self.total(Reading::Values, &Hulls(cells));
         is_refuted(self.relation, total, self.bound)
     }
 

@@ -1,7 +1,9 @@
 //! How a sum is compared with a number.
 ghost use Rattle.std.specs.Prelude.{◌≡◌};
-ghost use Rattle.kind_linear.specs.Relation.{is_related, refuted_by, kept_by, is_only_value};
-ghost use Rattle.kind_linear.specs.Output.{is_equality};
+ghost use Rattle.dom_core.specs.Ends.{IsOrdered};
+ghost use Rattle.kind_linear.specs.Relation.{is_related, refuted_by, certain_by, kept_by, is_only_value};
+ghost use Rattle.kind_linear.specs.Output.{is_equality, HasBits};
+ghost use Rattle.kind_linear.specs.Reified.{truth_ends};
 
 use dom_core::Interval;
 
@@ -35,6 +37,35 @@ pub(crate) fn is_refuted(relation: Relation, total: Interval, bound: i64) -> boo
         Relation::Equal => !total.has(bound),
         Relation::Differ => total.lo() == bound && total.hi() == bound,
     }
+}
+
+/// Whether each sum between the ends stands in the relation.
+fn is_certain(relation: Relation, total: Interval, bound: i64) -> bool
+    ensures certain { result ≡ certain_by relation total bound }
+    ensures ordered { IsOrdered total }
+{
+    let bound = bound as i128;
+    let lo = total.lo();
+    let hi = total.hi();
+    match relation {
+        Relation::AtMost => hi <= bound,
+        Relation::Equal => lo == bound && hi == bound,
+        Relation::Differ => !total.has(bound),
+    }
+}
+
+/// The truths of sums between the ends: 1 where it is certain, 0 where it is refuted, else both.
+pub(crate) fn truth_over(relation: Relation, total: Interval, bound: i64) -> Interval
+    ensures truth { result ≡ truth_ends (certain_by relation total bound) (refuted_by relation total bound) }
+    ensures bits { HasBits 1 result }
+{
+    if is_certain(relation, total, bound) {
+        return Interval::new(1, 1);
+    }
+    if is_refuted(relation, total, bound) {
+        return Interval::new(0, 0);
+    }
+    Interval::new(0, 1)
 }
 
 /// Whether the relation stays where the sum changes so and lies there afterwards.

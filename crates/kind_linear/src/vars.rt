@@ -18,6 +18,16 @@ pub(crate) fn distinct_vars(alloc: Global, terms: &[Term]) -> Result<Vec<VarId>,
     Ok(vars)
 }
 
+/// The variables with that of the argument at their end, unless it is none or stands among them.
+pub(crate) fn with_output(alloc: Global, vars: &[VarId], output: Arg) -> Result<Vec<VarId>, AllocError>
+    ensures { IfOk result (λ v. v.items ≡ with_new_arg vars.now output) }
+{
+    let mut all = Vec::new(alloc);
+    all.extend_from_slice(vars)?;
+    add_new(&mut all, output)?;
+    Ok(all)
+}
+
 /// Puts the argument's variable at the end, unless it is a constant or stands in the list.
 fn add_new(vars: &mut Vec<VarId>, arg: Arg) -> Result<(), AllocError>
     ensures { OnOk result (vars.new.items ≡ with_new_arg vars.old.items arg) }

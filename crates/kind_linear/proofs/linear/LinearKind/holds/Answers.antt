@@ -3,7 +3,7 @@ use Rattle.std.proofs.lemmas.Int.{to_z-of_z}
 use Rattle.std.specs.Int.{w128}
 use Rattle.dom_core.specs.Ends.{Ends, only}
 use Rattle.dom_core.specs.Assignment.{entry_at}
-use Rattle.kind_linear.specs.Linear.{Form}
+use Rattle.kind_linear.specs.Linear.{Form, form_vars}
 use Rattle.kind_linear.specs.Relation.{is_related}
 use Rattle.kind_linear.specs.Sum.{arg_span, total, sum_at, vars_of}
 use Rattle.kind_linear.specs.SumLaws.{each_listed, each_unit, total_point}
@@ -11,24 +11,17 @@ use Rattle.kind_linear.specs.declared.term.Reading.TheVariants.{Values}
 use Rattle.kind_linear.specs.declared.term.Term.{Term}
 use Rattle.kind_linear.proofs.linear.LinearKind.holds.Goals as goal
 
-pub total_of-sum-requires-clause-below : goal.total_of-sum-requires-clause-below
-total_of-sum-requires-clause-below c =
-    let e : c.as_slice.result.now ≡ c.args.self.now.terms = c.as_slice.ensures.value ∙ ap (λ (k : Form). k.terms) c.self.view_is in
-    rw e (each_listed (λ u. u.0 < length c.args.a.now) (vars_of c.args.self.now.terms) c.requires.below)
-
-pub total_of-sum-requires-clause-ready : goal.total_of-sum-requires-clause-ready
-total_of-sum-requires-clause-ready c = each_unit (vars_of c.as_slice.result.now)
+pub total-sum-requires-clause-ready : goal.total-sum-requires-clause-ready
+total-sum-requires-clause-ready c = each_unit (form_vars c.args.self.now)
 
 pub returns : goal.returns
 returns c =
-    let terms : c.as_slice.result.now ≡ c.args.self.now.terms = c.as_slice.ensures.value ∙ ap (λ (k : Form). k.terms) c.self.view_is in
     let relation : c.self.inside.relation ≡ c.args.self.now.relation = ap (λ (k : Form). k.relation) c.self.view_is in
     let bound : c.self.inside.bound ≡ c.args.self.now.bound = ap (λ (k : Form). k.bound) c.self.view_is in
     let bound_fits : FitsSigned w64 c.self.inside.bound = search rules in
     let sum_fits : FitsSigned w128 c.lo.result = search rules in
     let sum : c.lo.result ≡ sum_at c.args.self.now.terms c.args.a.now =
-    c.lo.ensures.lo ∙ ap (λ (e : Ends). e.lo) (c.total_of-sum.ensures
-    ∙ ap (λ (ts : List Term). total ts (arg_span Values (λ v. only (entry_at c.args.a.now v)))) terms ∙ total_point c.args.self.now.terms c.args.a.now) in
+    c.lo.ensures.lo ∙ ap (λ (e : Ends). e.lo) (c.total-sum.ensures ∙ total_point c.args.self.now.terms c.args.a.now) in
     let met : c.is_met.result ≡ is_related c.self.inside.relation c.lo.result c.self.inside.bound =
     rw (to_z-of_z w128 c.lo.result sum_fits, to_z-of_z w64 c.self.inside.bound bound_fits) at c.is_met.ensures in
     met ∙ ap (λ r. is_related r c.lo.result c.self.inside.bound) relation ∙ ap (λ (s : ℤ). is_related c.args.self.now.relation s c.self.inside.bound) sum

@@ -1,0 +1,296 @@
+//! Linear relations whose truth is the value of an argument.
+ghost use Rattle.std.specs.Prelude.{◌≡◌, ◌<◌, IfOk, length, pos};
+ghost use Rattle.dom_core.specs.Ends.{only, difference_ends};
+ghost use Rattle.kind_linear.specs.Output.{HasBits};
+ghost use Rattle.kind_linear.specs.Reified.{number_of, bound_row, truth_row, arg_movement};
+ghost use Rattle.kind_linear.specs.Sum.{terms_of, ArgHas};
+
+use crate::linear::Linear;
+use crate::relation::Relation;
+use crate::term::{Reading, span, var_of};
+use crate::vars::with_output;
+use dom_cells::{Cells, Hulls, Point, Region};
+use dom_core::{After, Arg, Assignment, Before, Changes, Clause, Interval, Intervals, Literal, Movement, VarId, View};
+use kind_law::{
+    Define, Kind, Propagate, are_apart, are_still, change_by, is_function_kept, next_of, reason_of,
+};
+use std::alloc::{AllocError, Global};
+use std::marker::Model;
+
+/// A linear relation, with the argument that is 1 exactly where it holds and else 0.
+#[derive(Drop)]
+pub struct LinearReified {
+    linear: Linear,
+    output: Arg,
+    vars: Vec<VarId>,
+}
+
+impl Model for LinearReified {
+    ghost use Rattle.std.specs.Prelude.{◌≡◌};
+    ghost use Rattle.kind_linear.specs.Reified.{Truth, truth_vars};
+
+    ghost Value = { Truth };
+
+    ghost view = { λ k. record { form = k.linear; output = k.output } };
+
+    ghost invariant = { λ k. k.vars.items ≡ truth_vars (record { form = k.linear; output = k.output }) };
+}
+
+impl LinearReified {
+    /// The truth of the relation of the sum of the arguments, each times its coefficient, to the bound.
+    pub fn new(
+        alloc: Global,
+        coefs: &[i64],
+        args: &[Arg],
+        relation: Relation,
+        bound: i64,
+        output: Arg,
+    ) -> Result<LinearReified, AllocError>
+        requires { length coefs.now ≡ length args.now }
+        ensures { IfOk result (λ k. k ≡ record { form = record { terms = terms_of coefs.now args.now; relation = relation; bound = bound }; output = output }) }
+    {
+        let linear = Linear::new(alloc, coefs, args, relation, bound)?;
+        let vars = with_output(alloc, linear.vars(), output)?;
+        Ok(LinearReified {
+            linear,
+            output,
+            vars,
+        })
+    }
+}
+
+impl LinearReified {
+    ghost use Rattle.std.specs.Prelude.{◌≡◌, ◌<◌, length};
+    ghost use Rattle.dom_core.specs.View.{movement_at};
+    ghost use Rattle.kind_law.specs.Laws.{Each, AllBelow, befores, afters, IsTrueChange};
+    ghost use Rattle.kind_linear.specs.Linear.{form_vars, FormFits};
+    ghost use Rattle.kind_linear.specs.Output.{HasBits};
+    ghost use Rattle.kind_linear.specs.Reified.{truth_range, truth_changed, truth_movement};
+
+    /// The truths under intervals.
+    fn truths<I: Intervals>(&self, intervals: &I) -> Interval
+        requires below { Each (λ u. u.0 < I.width intervals.now) (form_vars self.now.form) }
+        requires ready { Each (λ u. I.ready intervals.now u.0) (form_vars self.now.form) }
+        requires fits { FormFits self.now.form (I.spans intervals.now) }
+        ensures range { result ≡ truth_range self.now (I.spans intervals.now) }
+        ensures bits { HasBits 1 result }
+    {
+        let total = self.linear.total(Reading::Values, intervals);
+        self.linear.truth(total)
+    }
+
+    /// The change of the truth under a view.
+    fn truth_change(&self, view: &View) -> Interval
+        requires below { AllBelow (length view.now) (form_vars self.now.form) }
+        requires before { FormFits self.now.form (befores view.now) }
+        requires after { FormFits self.now.form (afters view.now) }
+        requires change { Each (λ u. IsTrueChange (movement_at view.now u.0)) (form_vars self.now.form) }
+        ensures { result ≡ truth_changed self.now view.now }
+    {
+        let still = are_still(self.linear.vars(), view);
+        let sum = self.linear.total(Reading::Changes, &Changes(view));
+        let before = self.truths(&Before(view));
+        let after = self.truths(&After(view));
+        let row = row_of(self.linear.relation(), sum, before, after);
+        change_by(still, row, before, after)
+    }
+
+    /// The movement of the truth under a view.
+    fn truth_movement(&self, view: &View) -> Movement
+        requires below { AllBelow (length view.now) (form_vars self.now.form) }
+        requires before { FormFits self.now.form (befores view.now) }
+        requires after { FormFits self.now.form (afters view.now) }
+        requires change { Each (λ u. IsTrueChange (movement_at view.now u.0)) (form_vars self.now.form) }
+        ensures { result ≡ truth_movement self.now view.now }
+    {
+        Movement {
+            before: self.truths(&Before(view)),
+            after: self.truths(&After(view)),
+            change: self.truth_change(view),
+        }
+    }
+}
+
+impl Kind for LinearReified {
+    ghost use Rattle.std.specs.Prelude.{false};
+    ghost use Rattle.kind_linear.specs.Linear.{FormFits};
+    ghost use Rattle.kind_linear.specs.Reified.{truth_vars, truth_met, truth_kept, truth_refuted};
+    ghost use Rattle.kind_linear.specs.ReifiedLaws.{truth-fits, truth-shrink, truth-fixed, truth-keep};
+
+    ghost vars = { truth_vars };
+
+    ghost inside = { λ k v. false };
+
+    ghost fits = { λ k. FormFits k.form };
+
+    ghost met = { truth_met };
+
+    ghost kept = { truth_kept };
+
+    ghost refuted = { truth_refuted };
+
+    fn vars(&self) -> &[VarId] {
+        self.vars.as_slice()
+    }
+
+    fn is_inside(&self, _var: VarId) -> bool {
+        false
+    }
+
+    fn holds(&self, a: &Assignment) -> bool {
+        let truth = number_of(self.linear.holds(a));
+        let output = span(self.output, Reading::Values, &Point(a));
+        output.lo() == truth
+    }
+
+    fn keeps(&self, view: &View) -> bool {
+        let truth = self.truth_movement(view);
+        let output = movement_of(self.output, view);
+        is_function_kept(true, truth, output)
+    }
+
+    fn refutes_in<R: Region>(&self, cells: &R) -> bool {
+        let truth = self.truths(&Hulls(cells));
+        let output = span(self.output, Reading::Values, &Hulls(cells));
+        are_apart(truth, output)
+    }
+
+    ghost fits_law = { truth-fits };
+
+    ghost shrink_law = { truth-shrink };
+
+    ghost fixed_law = { truth-fixed };
+
+    ghost keep_law = { truth-keep };
+}
+
+impl Propagate for LinearReified {
+    fn next(&self, cells: &Cells) -> Option<Literal> {
+        next_of(self, cells)
+    }
+
+    fn reason(
+        &self,
+        cells: &Cells,
+        implied: Option<Literal>,
+        out: &mut Clause,
+    ) -> Result<(), AllocError> {
+        reason_of(self, cells, implied, out)
+    }
+}
+
+impl Define for LinearReified {
+    ghost use Rattle.kind_linear.specs.Linear.{form_vars, FormFits};
+    ghost use Rattle.kind_linear.specs.Sum.{var_of};
+    ghost use Rattle.kind_linear.specs.Reified.{IsGiver, truth_given, truth_range, truth_changed};
+    ghost use Rattle.kind_linear.specs.ReifiedLaws.{truth-apart, truth-value, truth-input, truth-range, truth-monotone, truth-change, truth-fixes};
+
+    ghost functional = { IsGiver };
+
+    ghost output = { λ k. var_of k.output };
+
+    ghost inputs = { λ k. form_vars k.form };
+
+    ghost fits_inputs = { λ k. FormFits k.form };
+
+    ghost given = { truth_given };
+
+    ghost ranged = { truth_range };
+
+    ghost changed = { truth_changed };
+
+    fn output(&self) -> VarId {
+        var_of(self.output)
+    }
+
+    fn value(&self, a: &Assignment) -> i64 {
+        if self.linear.holds(a) { 1 } else { 0 }
+    }
+
+    fn range<I: Intervals>(&self, intervals: &I) -> Interval {
+        self.truths(intervals)
+    }
+
+    fn change(&self, view: &View) -> Interval {
+        self.truth_change(view)
+    }
+
+    ghost apart_law = { truth-apart };
+
+    ghost value_law = { truth-value };
+
+    ghost input_law = { truth-input };
+
+    ghost range_law = { truth-range };
+
+    ghost monotone_law = { truth-monotone };
+
+    ghost change_law = { truth-change };
+
+    ghost fixes_law = { truth-fixes };
+}
+
+/// The number of a truth.
+fn number_of(truth: bool) -> i128
+    ensures { result ≡ number_of truth }
+{
+    if truth { 1 } else { 0 }
+}
+
+/// How a truth may change where the sum changes so and the truths are these before and after.
+fn row_of(relation: Relation, change: Interval, before: Interval, after: Interval) -> Interval
+    requires before { HasBits 1 before }
+    requires after { HasBits 1 after }
+    ensures { result ≡ truth_row relation change before after }
+{
+    match relation {
+        Relation::AtMost => bound_row(change),
+        Relation::Equal => difference(after, before),
+        Relation::Differ => difference(after, before),
+    }
+}
+
+/// The differences of a truth of the one and a truth of the other.
+fn difference(after: Interval, before: Interval) -> Interval
+    requires after { HasBits 1 after }
+    requires before { HasBits 1 before }
+    ensures { result ≡ difference_ends after before }
+{
+    Interval::new(after.lo() - before.hi(), after.hi() - before.lo())
+}
+
+/// How the truth of a bound may change where the sum changes so.
+fn bound_row(change: Interval) -> Interval
+    ensures { result ≡ bound_row change }
+{
+    let lo = if change.hi() <= 0 { 0 } else { -1 };
+    let hi = if 0 <= change.lo() { 0 } else { 1 };
+    Interval::new(lo, hi)
+}
+
+/// The movement of an argument.
+fn movement_of(arg: Arg, view: &View) -> Movement
+    requires { ArgHas (λ u. u.0 < length view.now) arg }
+    ensures { result ≡ arg_movement view.now arg }
+{
+    match arg {
+        Arg::Var(var) => Movement {
+            before: view.before(var),
+            after: view.after(var),
+            change: view.change(var),
+        },
+        Arg::Const(value) => constant_movement(value),
+    }
+}
+
+/// The movement of a constant.
+fn constant_movement(value: i64) -> Movement
+    ensures { result ≡ record { before = only value; after = only value; change = only (pos 0) } }
+{
+    let own = Interval::new(value as i128, value as i128);
+    Movement {
+        before: own,
+        after: own,
+        change: Interval::new(0, 0),
+    }
+}
