@@ -138,7 +138,7 @@ trim-more u High lo hi few many x le h =
     let least : ((hi -ℤ pos few) +ℤ pos 1) ≤ℤ x = ge_holds (above u (hi -ℤ pos few)) x refl h in
     holds_ge (above u (hi -ℤ pos many)) x refl (omega (arith, ints))
 
-trim-var : (u : VarId) (side : Side) (lo hi : ℤ) (n : ℕ) → (trim side u lo hi n).var ≡ u
+pub trim-var : (u : VarId) (side : Side) (lo hi : ℤ) (n : ℕ) → (trim side u lo hi n).var ≡ u
 trim-var u Low lo hi n = refl
 trim-var u High lo hi n = refl
 

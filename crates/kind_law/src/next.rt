@@ -1,13 +1,14 @@
 //! The first end that a kind implies, found by asking whether smaller boxes are refuted.
 ghost use Rattle.std.specs.Prelude.{◌≡◌, ◌<◌, ◌≤◌, length, false, true, ℕ, ◌+◌};
-ghost use Rattle.dom_cells.specs.Box.{cell_of, kept, IsBox};
+ghost use Rattle.dom_cells.specs.Box.{cell_of, IsBox};
 ghost use Rattle.dom_cells.specs.Cell.{lo_of, hi_of};
 ghost use Rattle.kind_law.specs.Laws.{AllBelow, hulls};
-ghost use Rattle.kind_law.specs.Next.{IsNext, trim, size_of, steps_refuted, IsDeepest, IsSideEnd, end_literal, IsReadable, IsBound, IsFirstEnd};
+ghost use Rattle.kind_law.specs.Next.{IsNext, trim, size_of, steps_refuted, IsDeepest, IsSideEnd, end_literal, IsReadable, IsFirstEnd};
 
 use crate::kind::Kind;
+use crate::probe::{Probe, Whole};
 use crate::side::Side;
-use dom_cells::{Cells, Kept};
+use dom_cells::Cells;
 use dom_core::{Literal, Rel, VarId};
 
 /// The first implied end, in the order of the kind's variables, the lower end of each first.
@@ -17,7 +18,7 @@ pub fn next_of<K: Kind>(kind: &K, cells: &Cells) -> Option<Literal>
     ensures { IsNext (K.refuted kind.now) (K.vars kind.now) (cell_of cells.now) result }
 {
     for var in kind.vars() {
-        let end = first_end(kind, cells, *var);
+        let end = first_end(&Whole(kind), cells, *var);
         if end.is_some() {
             return end;
         }
@@ -25,25 +26,26 @@ pub fn next_of<K: Kind>(kind: &K, cells: &Cells) -> Option<Literal>
     None
 }
 
-/// The end of the variable's cell that is implied, the lower one first.
-fn first_end<K: Kind>(kind: &K, cells: &Cells, var: VarId) -> Option<Literal>
-    requires var { IsReadable (K.vars kind.now) (length cells.now.starts) var }
-    requires fits { K.fits kind.now (hulls (cell_of cells.now)) }
-    ensures { IsFirstEnd (K.refuted kind.now) (cell_of cells.now) var result }
+/// The end of the variable's cell that is implied, the lower one first. A kind that can tell quickly whether a box with one
+/// bound more is refuted finds its ends by it.
+pub fn first_end<P: Probe>(probe: &P, cells: &Cells, var: VarId) -> Option<Literal>
+    requires var { IsReadable (P.vars probe.now) (length cells.now.starts) var }
+    requires answers { P.answers probe.now cells.now var }
+    ensures { IsFirstEnd (P.refuted probe.now) (cell_of cells.now) var result }
 {
-    if let Some(end) = end_of(kind, cells, var, Side::Low) {
+    if let Some(end) = end_of(probe, cells, var, Side::Low) {
         return Some(end);
     }
-    end_of(kind, cells, var, Side::High)
+    end_of(probe, cells, var, Side::High)
 }
 
 /// The end of the variable's cell that is implied on this side.
-fn end_of<K: Kind>(kind: &K, cells: &Cells, var: VarId, side: Side) -> Option<Literal>
-    requires var { IsReadable (K.vars kind.now) (length cells.now.starts) var }
-    requires fits { K.fits kind.now (hulls (cell_of cells.now)) }
-    ensures { IsSideEnd (K.refuted kind.now) (cell_of cells.now) var side result }
+fn end_of<P: Probe>(probe: &P, cells: &Cells, var: VarId, side: Side) -> Option<Literal>
+    requires var { IsReadable (P.vars probe.now) (length cells.now.starts) var }
+    requires answers { P.answers probe.now cells.now var }
+    ensures { IsSideEnd (P.refuted probe.now) (cell_of cells.now) var side result }
 {
-    let steps = deepest(kind, cells, var, side);
+    let steps = deepest(probe, cells, var, side);
     if steps == 0 {
         return None;
     }
@@ -51,24 +53,24 @@ fn end_of<K: Kind>(kind: &K, cells: &Cells, var: VarId, side: Side) -> Option<Li
 }
 
 /// The most steps from the end of the cell that a refuted box may have.
-fn deepest<K: Kind>(kind: &K, cells: &Cells, var: VarId, side: Side) -> u64
-    requires var { IsReadable (K.vars kind.now) (length cells.now.starts) var }
-    requires fits { K.fits kind.now (hulls (cell_of cells.now)) }
+fn deepest<P: Probe>(probe: &P, cells: &Cells, var: VarId, side: Side) -> u64
+    requires var { IsReadable (P.vars probe.now) (length cells.now.starts) var }
+    requires answers { P.answers probe.now cells.now var }
     ensures sound { IsBox cells.now }
-    ensures deepest { IsDeepest (steps_refuted (K.refuted kind.now) (cell_of cells.now) var side) (size_of (cell_of cells.now var.0)) result }
+    ensures deepest { IsDeepest (steps_refuted (P.refuted probe.now) (cell_of cells.now) var side) (size_of (cell_of cells.now var.0)) result }
 {
     let size = distance(cells, var);
     if size == 0 {
         return 0;
     }
-    if !is_refuted_within(kind, cells, trimmed(cells, var, side, 1)) {
+    if !probe.is_refuted_within(cells, trimmed(cells, var, side, 1)) {
         return 0;
     }
     let mut known = 1;
     let mut gap = size - 1;
     while gap > 0 {
         let half = gap - gap / 2;
-        if is_refuted_within(kind, cells, trimmed(cells, var, side, known + half)) {
+        if probe.is_refuted_within(cells, trimmed(cells, var, side, known + half)) {
             known += half;
             gap -= half;
         } else {
@@ -76,17 +78,6 @@ fn deepest<K: Kind>(kind: &K, cells: &Cells, var: VarId, side: Side) -> u64
         }
     }
     known
-}
-
-/// Whether the kind refutes the box with this bound more.
-fn is_refuted_within<K: Kind>(kind: &K, cells: &Cells, literal: Literal) -> bool
-    requires bound { IsBound (K.vars kind.now) (length cells.now.starts) (cell_of cells.now) literal }
-    requires fits { K.fits kind.now (hulls (cell_of cells.now)) }
-    requires sound { IsBox cells.now }
-    ensures { result ≡ K.refuted kind.now (kept (cell_of cells.now) literal) }
-{
-    let kept = Kept { cells, literal };
-    kind.refutes_in(&kept)
 }
 
 /// How far the ends of the cell lie apart.
