@@ -1,3 +1,4 @@
 pub mod RunLaws
 pub mod VarLaws
 pub mod SolvedLaws
+pub mod SlackLaws

@@ -6,6 +6,7 @@ pub mod OutputLaws
 pub mod Reified
 pub mod ReifiedLaws
 pub mod Relation
+pub mod Slack
 pub mod Sum
 pub mod SumLaws
 pub use Rattle.dom_core.specs.Ends

@@ -1,0 +1,35 @@
+-- Sums of which the interval is known, and one of whose terms changes.
+use Rattle.std.specs.Prelude.{◌≡◌, List, [], ◌∷◌, ◌++◌, ℕ, ℤ, pos, ◌+ℤ◌, ◌-ℤ◌, Bool, Option, None, Some, slice_index_or}
+use Rattle.dom_core.specs.Ends.{Ends}
+use Rattle.dom_core.specs.declared.arg.Arg.{Arg}
+use Rattle.dom_core.specs.declared.arg.Arg.TheVariants.{Var, Const}
+use Rattle.dom_core.specs.declared.literal.Literal.{Literal}
+use Rattle.dom_cells.specs.declared.start.Start.{Start}
+use Rattle.dom_core.specs.declared.var_id.VarId.{VarId}
+use Rattle.kind_law.specs.Laws.{Each, hulls}
+use Rattle.kind_law.specs.Next.{IsFirstEnd}
+use Rattle.kind_linear.specs.Linear.{Form, FormFits}
+use Rattle.kind_linear.specs.Sum.{arg_ends, total, vars_of}
+use Rattle.kind_linear.specs.declared.term.Term.{Term}
+
+-- the interval of a sum where one of its parts is replaced by another
+abbrev pub replaced_ends : Ends → Ends → Ends → Ends
+replaced_ends t old new = record { lo = (t.lo -ℤ old.lo) +ℤ new.lo; hi = (t.hi -ℤ old.hi) +ℤ new.hi }
+
+-- the term at this place
+abbrev pub term_at : List Term → ℕ → Term
+term_at ts i = slice_index_or ts i (record { coef = pos 0; arg = Var (record { 0 = 0 }) })
+
+-- one term alone has the variable, with this coefficient, and the sum over the box is known
+pub record IsSlack (k : Form) (c : ℤ) (known : Ends) (b : ℕ → Start) (u : VarId) : Type 0 where
+  pub front : List Term
+  pub back : List Term
+  pub split : k.terms ≡ front ++ record { coef = c; arg = Var u } ∷ back
+  pub apart : Each (λ w. w.0 ≡ u.0 → ⊥) (vars_of (front ++ back))
+  pub sum : known ≡ total k.terms (arg_ends (hulls b))
+  pub fits : FormFits k (hulls b)
+
+-- the implied end of the argument, where that is a variable
+abbrev pub IsArgEnd : ((ℕ → Start) → Bool) → (ℕ → Start) → Arg → Option Literal → Type 0
+IsArgEnd refuted b (Var u) r = IsFirstEnd refuted b u r
+IsArgEnd refuted b (Const c) r = r ≡ None
