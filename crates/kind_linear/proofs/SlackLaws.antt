@@ -5,22 +5,28 @@ use Rattle.std.proofs.lemmas.Int.{ints}
 use Rattle.std.proofs.lemmas.List.{take-append-drop, drop_more}
 use Rattle.std.specs.Int.{w128}
 use Rattle.dom_cells.specs.Box.{kept}
-use Rattle.dom_cells.specs.Cell.{IsSane, ends_of}
+use Rattle.dom_cells.specs.Cell.{IsPart, IsSane, ends_of}
 use Rattle.dom_core.specs.Ends.{Ends, sum_ends, scaled_ends}
 use Rattle.dom_core.specs.declared.arg.Arg.{Arg}
 use Rattle.dom_core.specs.declared.arg.Arg.TheVariants.{Var, Const}
+use Rattle.dom_core.specs.Literal.{is_end}
 use Rattle.dom_core.specs.declared.literal.Literal.{Literal}
 use Rattle.dom_cells.specs.declared.start.Start.{Start}
 use Rattle.dom_core.specs.declared.var_id.VarId.{VarId}
-use Rattle.dom_cells.proofs.BoxLaws.{cut_at-other}
+use Rattle.dom_cells.proofs.BoxLaws.{cut_at-other, sane-ends}
 use Rattle.dom_core.proofs.TestLaws.{true_or_false, not_both}
-use Rattle.kind_law.specs.Laws.{Each, hulls}
+use Rattle.kind_law.specs.Laws.{Each, EndsIn, hulls}
 use Rattle.kind_law.specs.Next.{HasNoEnd, IsFirstEnd, IsNext}
+use Rattle.kind_law.proofs.BoundLaws.{part, kept_has}
 use Rattle.kind_law.proofs.EachLaws.{each_map}
 use Rattle.kind_law.proofs.NextLaws.{next_found, not_some}
 use Rattle.kind_linear.specs.InsertLaws.{same_ends, total-insert, magnitude-insert, total_same, each-insert}
-use Rattle.kind_linear.specs.Linear.{Form, form_vars, FormFits}
-use Rattle.kind_linear.specs.Slack.{replaced_ends, IsSlack, IsArgEnd}
+use Rattle.kind_linear.specs.Linear.{Form, form_vars, form_refuted, FormFits}
+use Rattle.kind_linear.specs.Relation.{refuted_by}
+use Rattle.kind_linear.specs.SumLaws.{each_listed, scaled_in, smaller_size, total_size, total_within}
+use Rattle.kind_linear.specs.declared.relation.Relation.{Relation}
+use Rattle.kind_linear.specs.declared.term.Reading.TheVariants.{Values}
+use Rattle.kind_linear.specs.Slack.{replaced_ends, HasSingles, IsSlack, IsArgEnd}
 use Rattle.kind_linear.specs.Sum.{arg_ends, total, size_of, magnitude, with_arg, vars_of, is_listed, with_new, collected, distinct}
 use Rattle.kind_linear.specs.declared.term.Term.{Term}
 
@@ -169,10 +175,6 @@ pub vars_of-append : (xs ys : List Term) → vars_of (xs ++ ys) ≡ vars_of xs +
 vars_of-append [] ys = refl
 vars_of-append (t ∷ ts) ys = ap (with_arg t.arg) (vars_of-append ts ys) ∙ sym (with_append t.arg (vars_of ts) (vars_of ys))
 
--- the sum has no variable twice
-abbrev pub HasSingles : Form → Type 0
-HasSingles k = (length (form_vars k) ≡ length (vars_of k.terms))
-
 zero_more : (n : ℕ) → n ≡ 0 + n
 zero_more n = omega arith
 
@@ -287,3 +289,69 @@ replaced_fits t old new f g h =
     let e : unsigned_abs new.lo ≤ 2 ^ 101 = omega arith in
     let k : unsigned_abs new.hi ≤ 2 ^ 101 = omega arith in
     ((omega (arith, ints), omega (arith, ints)), (omega (arith, ints), omega (arith, ints)))
+
+-- ---- what a probe computes
+
+-- the one term's variable is one of the relation's
+pub own_has : (P : VarId → Type 0) (k : Form) (c : ℤ) (known : Ends) (b : ℕ → Start) (u : VarId) → IsSlack k c known b u → Each P (form_vars k) → P u
+own_has P k c known b u s h =
+    (each-insert P s.front s.back (record { coef = c; arg = Var u }) (subst (λ (ts : List Term). Each P (vars_of ts)) s.split (each_listed P (vars_of k.terms) h))).0
+
+others_have : (P : VarId → Type 0) (k : Form) (c : ℤ) (known : Ends) (b : ℕ → Start) (u : VarId) → (s : IsSlack k c known b u) → Each P (form_vars k)
+    → Each P (vars_of (s.front ++ s.back))
+others_have P k c known b u s h =
+    (each-insert P s.front s.back (record { coef = c; arg = Var u }) (subst (λ (ts : List Term). Each P (vars_of ts)) s.split (each_listed P (vars_of k.terms) h))).1
+
+pub known_size : (k : Form) (c : ℤ) (known : Ends) (b : ℕ → Start) (u : VarId) → IsSlack k c known b u → size_of known ≤ 2 ^ 101
+known_size k c known b u s =
+    let e : size_of known ≡ size_of (total k.terms (arg_ends (hulls b))) = ap size_of s.sum in
+    let h : size_of (total k.terms (arg_ends (hulls b))) ≤ magnitude k.terms (arg_ends (hulls b)) = total_size k.terms (arg_ends (hulls b)) in
+    let f : magnitude k.terms (arg_ends (hulls b)) ≤ 2 ^ 101 = s.fits in
+    omega arith
+
+ends_part : (b : ℕ → Start) (l : Literal) (v : ℕ) → is_end l.rel ≡ true → IsSane (b v) → IsSane (kept b l v) → EndsIn (ends_of (kept b l v)) (ends_of (b v))
+ends_part b l v e sane cut =
+    let p : IsPart true (kept b l v) (b v) = part true (kept b l v) (b v) cut sane (λ x h. kept_has b l v x e h) in
+    record { low = p.low; order = sane-ends (kept b l v) cut; high = p.high }
+
+below_both : (a b n : ℕ) → a ≤ b → b ≤ n → a ≤ n
+below_both a b n h g = omega arith
+
+pub kept_size : (k : Form) (c : ℤ) (known : Ends) (b : ℕ → Start) (u : VarId) (l : Literal) → IsSlack k c known b u → is_end l.rel ≡ true
+    → IsSane (b u.0) → IsSane (kept b l u.0) → size_of (scaled_ends c (ends_of (kept b l u.0))) ≤ 2 ^ 101
+kept_size k c known b u l s e sane cut =
+    below_both (size_of (scaled_ends c (ends_of (kept b l u.0)))) (size_of (scaled_ends c (ends_of (b u.0)))) (2 ^ 101)
+    (smaller_size (scaled_ends c (ends_of (kept b l u.0))) (scaled_ends c (ends_of (b u.0))) (scaled_in c (ends_of (kept b l u.0)) (ends_of (b u.0)) (ends_part b l u.0 e sane cut)))
+    (own_size k c known b u s)
+
+less_part : (known own rest : Ends) → known ≡ sum_ends own rest → rest.lo ≤ℤ rest.hi → (known.lo -ℤ own.lo) ≤ℤ (known.hi -ℤ own.hi)
+less_part known own rest e h =
+    let lo : known.lo ≡ (own.lo +ℤ rest.lo) = ap (λ (x : Ends). x.lo) e in
+    let hi : known.hi ≡ (own.hi +ℤ rest.hi) = ap (λ (x : Ends). x.hi) e in
+    omega (arith, ints)
+
+pub rest_ordered : (k : Form) (c : ℤ) (known : Ends) (b : ℕ → Start) (u : VarId) → IsSlack k c known b u → Each (λ w. IsSane (b w.0)) (form_vars k)
+    → (known.lo -ℤ (scaled_ends c (ends_of (b u.0))).lo) ≤ℤ (known.hi -ℤ (scaled_ends c (ends_of (b u.0))).hi)
+rest_ordered k c known b u s sane =
+    less_part known (scaled_ends c (ends_of (b u.0))) (total (s.front ++ s.back) (arg_ends (hulls b))) (rest_is k c known b u s)
+    (total_within (s.front ++ s.back) Values (hulls b) (hulls b)
+    (each_map (λ w. IsSane (b w.0)) (λ w. EndsIn (hulls b w.0) (hulls b w.0)) (vars_of (s.front ++ s.back))
+    (λ w h. record { low = omega (arith, ints); order = sane-ends (b w.0) h; high = omega (arith, ints) })
+    (others_have (λ w. IsSane (b w.0)) k c known b u s sane))).order
+
+-- the answer for the box with the bound
+pub answer_is : (k : Form) (c : ℤ) (known : Ends) (b : ℕ → Start) (l : Literal) (r : Relation) (old new t : Ends) (bound : ℤ) → IsSlack k c known b l.var
+    → r ≡ k.relation → old ≡ scaled_ends c (ends_of (b l.var.0)) → new ≡ scaled_ends c (ends_of (kept b l l.var.0)) → t ≡ replaced_ends known old new → bound ≡ k.bound
+    → refuted_by r t bound ≡ form_refuted k (kept b l)
+answer_is k c known b l r old new t bound s e f g h i =
+    ap (λ (q : Relation). refuted_by q t bound) e
+    ∙ ap (λ (x : Ends). refuted_by k.relation x bound)
+    (h ∙ ap (λ (x : Ends). replaced_ends known x new) f ∙ ap (replaced_ends known (scaled_ends c (ends_of (b l.var.0)))) g ∙ sym (kept_total k c known b l.var l s refl))
+    ∙ ap (refuted_by k.relation (total k.terms (arg_ends (hulls (kept b l))))) i
+
+pub exchanged_order : (t old new : Ends) (lo hi : ℤ) → lo ≡ ((t.lo -ℤ old.lo) +ℤ new.lo) → hi ≡ ((t.hi -ℤ old.hi) +ℤ new.hi) → (t.lo -ℤ old.lo) ≤ℤ (t.hi -ℤ old.hi)
+    → new.lo ≤ℤ new.hi → lo ≤ℤ hi
+exchanged_order t old new lo hi e f h g = omega (arith, ints)
+
+pub exchanged_is : (r x y z a b d : ℤ) → r ≡ ((x -ℤ y) +ℤ z) → x ≡ a → y ≡ b → z ≡ d → r ≡ ((a -ℤ b) +ℤ d)
+exchanged_is r x y z a b d e f g h = omega (arith, ints)

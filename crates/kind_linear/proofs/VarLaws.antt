@@ -1,10 +1,10 @@
 -- Variables of terms, one term at a time.
-use Rattle.std.proofs.Common.{◌≡◌, ℕ, ◌+◌, ◌<◌, ◌==◌, Bool, true, false, ◌||◌, List, [], ◌∷◌, ◌++◌, length, drop, get_or, refl, ◌∙◌, ap}
+use Rattle.std.proofs.Common.{◌≡◌, ℕ, suc, ◌+◌, ◌<◌, ◌==◌, Bool, true, false, ◌||◌, List, [], ◌∷◌, ◌++◌, length, drop, get_or, refl, ◌∙◌, ap}
 use Rattle.std.proofs.lemmas.List.{drop_more}
 use Rattle.dom_core.specs.declared.arg.Arg.{Arg}
 use Rattle.dom_core.specs.declared.arg.Arg.TheVariants.{Var, Const}
 use Rattle.dom_core.specs.declared.var_id.VarId.{VarId}
-use Rattle.kind_linear.specs.Sum.{with_arg, vars_of, is_listed}
+use Rattle.kind_linear.specs.Sum.{is_variable, with_arg, vars_of, is_listed}
 use Rattle.kind_linear.specs.Output.{is_read_by}
 use Rattle.kind_linear.specs.declared.term.Term.{Term}
 
@@ -40,3 +40,20 @@ listed-append u (x ∷ xs) ys =
     listed_arg u x.arg (vars_of (xs ++ ys)) ∙ ap (λ (b : Bool). is_read_by x.arg u || b) (listed-append u xs ys)
     ∙ grouped (is_read_by x.arg u) (is_listed u (vars_of xs)) (is_listed u (vars_of ys))
     ∙ ap (λ (b : Bool). b || is_listed u (vars_of ys)) (listed_back u x.arg (vars_of xs))
+
+counted_arg : (x : Arg) (vs : List VarId) → is_variable x ≡ true → length (with_arg x vs) ≡ suc (length vs)
+counted_arg (Var u) vs h = refl
+counted_arg (Const c) vs h = absurd (cc)
+
+passed_arg : (x : Arg) (vs : List VarId) → is_variable x ≡ false → length (with_arg x vs) ≡ length vs
+passed_arg (Var u) vs h = absurd (cc)
+passed_arg (Const c) vs h = refl
+
+-- how many variables come from this term on
+pub counted_here : (ts : List Term) (i : ℕ) (d : Term) → i < length ts → is_variable (get_or ts i d).arg ≡ true
+    → length (vars_of (drop i ts)) ≡ suc (length (vars_of (drop (i + 1) ts)))
+counted_here ts i d lt h = ap (λ (us : List Term). length (vars_of us)) (drop_more ts i d lt) ∙ counted_arg (get_or ts i d).arg (vars_of (drop (i + 1) ts)) h
+
+pub passed_here : (ts : List Term) (i : ℕ) (d : Term) → i < length ts → is_variable (get_or ts i d).arg ≡ false
+    → length (vars_of (drop i ts)) ≡ length (vars_of (drop (i + 1) ts))
+passed_here ts i d lt h = ap (λ (us : List Term). length (vars_of us)) (drop_more ts i d lt) ∙ passed_arg (get_or ts i d).arg (vars_of (drop (i + 1) ts)) h

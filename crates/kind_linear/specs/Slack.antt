@@ -1,5 +1,5 @@
 -- Sums of which the interval is known, and one of whose terms changes.
-use Rattle.std.specs.Prelude.{◌≡◌, List, [], ◌∷◌, ◌++◌, ℕ, ℤ, pos, ◌+ℤ◌, ◌-ℤ◌, Bool, Option, None, Some, slice_index_or}
+use Rattle.std.specs.Prelude.{◌≡◌, List, [], ◌∷◌, ◌++◌, ℕ, ℤ, pos, ◌+ℤ◌, ◌-ℤ◌, Bool, true, length, Option, None, Some, slice_index_or}
 use Rattle.dom_core.specs.Ends.{Ends}
 use Rattle.dom_core.specs.declared.arg.Arg.{Arg}
 use Rattle.dom_core.specs.declared.arg.Arg.TheVariants.{Var, Const}
@@ -8,7 +8,7 @@ use Rattle.dom_cells.specs.declared.start.Start.{Start}
 use Rattle.dom_core.specs.declared.var_id.VarId.{VarId}
 use Rattle.kind_law.specs.Laws.{Each, hulls}
 use Rattle.kind_law.specs.Next.{IsFirstEnd}
-use Rattle.kind_linear.specs.Linear.{Form, FormFits}
+use Rattle.kind_linear.specs.Linear.{Form, form_vars, FormFits}
 use Rattle.kind_linear.specs.Sum.{arg_ends, total, vars_of}
 use Rattle.kind_linear.specs.declared.term.Term.{Term}
 
@@ -33,3 +33,12 @@ pub record IsSlack (k : Form) (c : ℤ) (known : Ends) (b : ℕ → Start) (u : 
 abbrev pub IsArgEnd : ((ℕ → Start) → Bool) → (ℕ → Start) → Arg → Option Literal → Type 0
 IsArgEnd refuted b (Var u) r = IsFirstEnd refuted b u r
 IsArgEnd refuted b (Const c) r = r ≡ None
+
+-- the sum has no variable twice
+abbrev pub HasSingles : Form → Type 0
+HasSingles k = (length (form_vars k) ≡ length (vars_of k.terms))
+
+-- the relation's parts as they are kept: its variables, and whether none comes twice
+pub record IsKept (variables : List VarId) (single : Bool) (k : Form) : Type 0 where
+  pub vars : variables ≡ form_vars k
+  pub singles : single ≡ true → HasSingles k

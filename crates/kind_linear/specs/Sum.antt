@@ -1,5 +1,5 @@
 -- Sums of terms.
-use Rattle.std.specs.Prelude.{◌+◌, ◌==◌, Bool, if◌then◌else◌, List, [], ◌∷◌, ◌++◌, max, ℕ, ℤ, pos, ◌+ℤ◌, ◌*ℤ◌, unsigned_abs}
+use Rattle.std.specs.Prelude.{◌+◌, ◌==◌, Bool, true, false, if◌then◌else◌, List, [], ◌∷◌, ◌++◌, max, ℕ, ℤ, pos, ◌+ℤ◌, ◌*ℤ◌, unsigned_abs}
 use Rattle.std.specs.List.{list_any}
 use Rattle.dom_core.specs.Assignment.{entry_at}
 use Rattle.dom_core.specs.Ends.{Ends, only, sum_ends, scaled_ends}
@@ -42,6 +42,11 @@ ArgHas P (Const c) = Unit {0}
 abbrev pub var_of : Arg → VarId
 var_of (Var x) = x
 var_of (Const c) = record { 0 = 0 }
+
+-- the argument is a variable
+abbrev pub is_variable : Arg → Bool
+is_variable (Var x) = true
+is_variable (Const c) = false
 
 -- the sum of the terms under intervals of their arguments
 abbrev pub total : List Term → (Arg → Ends) → Ends

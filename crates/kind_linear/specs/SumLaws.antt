@@ -122,7 +122,7 @@ span_within r small large (Var x) h = h
 span_within Values small large (Const c) h = record { low = omega (arith, ints); order = omega (arith, ints); high = omega (arith, ints) }
 span_within Changes small large (Const c) h = record { low = omega (arith, ints); order = omega (arith, ints); high = omega (arith, ints) }
 
-scaled_in : (k : ℤ) (small large : Ends) → EndsIn small large → EndsIn (scaled_ends k small) (scaled_ends k large)
+pub scaled_in : (k : ℤ) (small large : Ends) → EndsIn small large → EndsIn (scaled_ends k small) (scaled_ends k large)
 scaled_in k small large e =
     let p = scaled_part k small large e.low e.order e.high in
     record { low = p.0; order = scaled_ordered k small e.order; high = p.1 }
@@ -137,7 +137,7 @@ total_within (t ∷ ts) r small large h =
     let f : EndsIn (total ts (arg_span r small)) (total ts (arg_span r large)) = total_within ts r small large both.1 in
     record { low = omega (arith, ints, e.low, f.low); order = omega (arith, ints, e.order, f.order); high = omega (arith, ints, e.high, f.high) }
 
-smaller_size : (small large : Ends) → EndsIn small large → size_of small ≤ size_of large
+pub smaller_size : (small large : Ends) → EndsIn small large → size_of small ≤ size_of large
 smaller_size small large e =
     let a : large.lo ≤ℤ small.lo = e.low in
     let b : small.lo ≤ℤ small.hi = e.order in

@@ -5,6 +5,7 @@ mod linear;
 mod output;
 mod reified;
 mod relation;
+mod slack;
 mod term;
 #[cfg(test)]
 mod tests;

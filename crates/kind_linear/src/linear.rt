@@ -4,12 +4,13 @@ ghost use Rattle.kind_linear.specs.Sum.{terms_of};
 ghost use Rattle.kind_linear.specs.Output.{can_define};
 
 use crate::relation::{Relation, is_equality, is_kept, is_met, is_refuted, truth_over};
+use crate::slack::Slack;
 use crate::term::{Reading, Term, is_unit, pair_up};
 use crate::total::total_of;
-use crate::vars::{distinct_vars, is_alone};
+use crate::vars::{count_vars, distinct_vars, is_alone};
 use dom_cells::{Cells, Hulls, Point, Region};
 use dom_core::{After, Arg, Assignment, Changes, Clause, Interval, Intervals, Literal, VarId, View};
-use kind_law::{Kind, Propagate, next_of, reason_of};
+use kind_law::{Kind, Propagate, first_end, next_of, reason_of};
 use std::alloc::{AllocError, Global};
 use std::marker::Model;
 
@@ -20,26 +21,30 @@ pub struct Linear {
     relation: Relation,
     bound: i64,
     vars: Vec<VarId>,
+    single: bool,
 }
 
 impl Model for Linear {
-    ghost use Rattle.kind_linear.specs.Linear.{Form, form_vars};
-    ghost use Rattle.std.specs.Prelude.{◌≡◌};
+    ghost use Rattle.kind_linear.specs.Linear.{Form};
+    ghost use Rattle.kind_linear.specs.Slack.{IsKept};
 
     ghost Value = { Form };
 
     ghost view = { λ k. record { terms = k.terms.items; relation = k.relation; bound = k.bound } };
 
-    ghost invariant = { λ k. k.vars.items ≡ form_vars (record { terms = k.terms.items; relation = k.relation; bound = k.bound }) };
+    ghost invariant = { λ k. IsKept k.vars.items k.single (record { terms = k.terms.items; relation = k.relation; bound = k.bound }) };
 }
 
 impl Linear {
     ghost use Rattle.std.specs.Prelude.{◌≡◌, ◌<◌, ◌≤◌, ◌^◌};
-    ghost use Rattle.kind_law.specs.Laws.{Each};
-    ghost use Rattle.kind_linear.specs.Linear.{form_vars};
+    ghost use Rattle.dom_cells.specs.Box.{cell_of};
+    ghost use Rattle.kind_law.specs.Laws.{Each, AllBelow, hulls};
+    ghost use Rattle.kind_law.specs.Next.{IsNext};
+    ghost use Rattle.kind_linear.specs.Linear.{form_vars, form_refuted, FormFits};
     ghost use Rattle.kind_linear.specs.Output.{HasBits};
     ghost use Rattle.kind_linear.specs.Reified.{truth_over};
-    ghost use Rattle.kind_linear.specs.Sum.{arg_span, total, magnitude};
+    ghost use Rattle.kind_linear.specs.Slack.{term_at, HasSingles, IsArgEnd};
+    ghost use Rattle.kind_linear.specs.Sum.{arg_span, arg_ends, total, magnitude};
 
     /// The relation of the sum of the arguments, each times its coefficient, to the bound.
     pub fn new(
@@ -54,11 +59,13 @@ impl Linear {
     {
         let terms = pair_up(alloc, coefs, args)?;
         let vars = distinct_vars(alloc, terms.as_slice())?;
+        let single = vars.len() == count_vars(terms.as_slice());
         Ok(Linear {
             terms,
             relation,
             bound,
             vars,
+            single,
         })
     }
 
@@ -97,6 +104,46 @@ impl Linear {
         ensures bits { HasBits 1 result }
     {
         truth_over(self.relation, total, self.bound)
+    }
+
+    /// The first implied end, where no variable comes twice, the terms being taken in turn.
+    fn first_in_turn(&self, cells: &Cells, known: Interval) -> Option<Literal>
+        requires single { HasSingles self.now }
+        requires below { AllBelow (length cells.now.starts) (form_vars self.now) }
+        requires sum { known ≡ total self.now.terms (arg_ends (hulls (cell_of cells.now))) }
+        requires fits { FormFits self.now (hulls (cell_of cells.now)) }
+        ensures { IsNext (form_refuted self.now) (form_vars self.now) (cell_of cells.now) result }
+    {
+        for at in 0..self.terms.len() {
+            let end = self.end_of(cells, known, at);
+            if end.is_some() {
+                return end;
+            }
+        }
+        None
+    }
+
+    /// The implied end of the term at the place, where that has a variable.
+    fn end_of(&self, cells: &Cells, known: Interval, at: usize) -> Option<Literal>
+        requires at { at < length self.now.terms }
+        requires single { HasSingles self.now }
+        requires below { AllBelow (length cells.now.starts) (form_vars self.now) }
+        requires sum { known ≡ total self.now.terms (arg_ends (hulls (cell_of cells.now))) }
+        requires fits { FormFits self.now (hulls (cell_of cells.now)) }
+        ensures { IsArgEnd (form_refuted self.now) (cell_of cells.now) (term_at self.now.terms at).arg result }
+    {
+        let term = self.terms[at];
+        match term.arg {
+            Arg::Const(_) => None,
+            Arg::Var(var) => {
+                let slack = Slack {
+                    linear: self,
+                    coef: term.coef,
+                    total: known,
+                };
+                first_end(&slack, cells, var)
+            }
+        }
     }
 
     /// Whether the relation is an equation in which the variable at this place occurs once, with the coefficient 1 or
@@ -166,7 +213,12 @@ impl Kind for Linear {
 
 impl Propagate for Linear {
     fn next(&self, cells: &Cells) -> Option<Literal> {
-        next_of(self, cells)
+        let _width = cells.width();
+        if !self.single {
+            return next_of(self, cells);
+        }
+        let total = self.total(Reading::Values, &Hulls(cells));
+        self.first_in_turn(cells, total)
     }
 
     fn reason(

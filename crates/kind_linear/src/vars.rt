@@ -1,6 +1,6 @@
 //! The variables of terms.
 ghost use Rattle.std.specs.Prelude.{◌≡◌, ◌<◌, IfOk, OnOk, length};
-ghost use Rattle.kind_linear.specs.Sum.{vars_of, distinct, is_listed, with_new_arg};
+ghost use Rattle.kind_linear.specs.Sum.{is_variable, vars_of, distinct, is_listed, with_new_arg};
 ghost use Rattle.kind_linear.specs.Output.{is_alone, is_read_by, others_at};
 
 use crate::term::Term;
@@ -16,6 +16,29 @@ pub(crate) fn distinct_vars(alloc: Global, terms: &[Term]) -> Result<Vec<VarId>,
         add_new(&mut vars, term.arg)?;
     }
     Ok(vars)
+}
+
+/// How many terms have a variable.
+pub(crate) fn count_vars(terms: &[Term]) -> usize
+    ensures { result ≡ length (vars_of terms.now) }
+{
+    let mut count = 0;
+    for term in terms {
+        if is_var(term.arg) {
+            count += 1;
+        }
+    }
+    count
+}
+
+/// Whether the argument is a variable.
+fn is_var(arg: Arg) -> bool
+    ensures { result ≡ is_variable arg }
+{
+    match arg {
+        Arg::Var(_) => true,
+        Arg::Const(_) => false,
+    }
 }
 
 /// The variables with that of the argument at their end, unless it is none or stands among them.
