@@ -125,8 +125,8 @@ function_keeps two f y v w p q m bits h e =
       | inr others ↦ elim (or_true (are_one f.after y.after) (two && truth_kept f.change y) others) [
         | inl one ↦ int_eq_from q w (same_value f.after y.after w q one m.value_after m.output_after)
         | inr stays ↦ (let b = bits (and_first two (truth_kept f.change y) stays) in elim (or_true (stays_at y (pos 1) && int_le (pos 0) f.change.lo) (stays_at y (pos 0) && int_le f.change.hi (pos 0)) (and_second two (truth_kept f.change y) stays)) [
-            | inl up ↦ int_eq_from q w (up_kept f y v w p q m b.1 same up)
-            | inr down ↦ int_eq_from q w (down_kept f y v w p q m b.0 same down)
-          ])
+          | inl up ↦ int_eq_from q w (up_kept f y v w p q m b.1 same up)
+          | inr down ↦ int_eq_from q w (down_kept f y v w p q m b.0 same down)
+        ])
       ]
     ]

@@ -9,7 +9,9 @@ use crate::term::{Reading, Term, is_unit, pair_up};
 use crate::total::total_of;
 use crate::vars::{count_vars, distinct_vars, is_alone};
 use dom_cells::{Cells, Hulls, Point, Region};
-use dom_core::{After, Arg, Assignment, Changes, Clause, Interval, Intervals, Literal, VarId, View};
+use dom_core::{
+    After, Arg, Assignment, Changes, Clause, Interval, Intervals, Literal, VarId, View,
+};
 use kind_law::{Kind, Propagate, first_end, next_of, reason_of};
 use std::alloc::{AllocError, Global};
 use std::marker::Model;

@@ -8,7 +8,9 @@ use crate::term::{Reading, Term, var_of};
 use crate::total::total_of;
 use crate::vars::{distinct_vars, terms_but};
 use dom_cells::{Cells, Point, Region};
-use dom_core::{After, Assignment, Before, Changes, Clause, Interval, Intervals, Literal, VarId, View};
+use dom_core::{
+    After, Assignment, Before, Changes, Clause, Interval, Intervals, Literal, VarId, View,
+};
 use kind_law::{Define, Kind, Propagate, are_still, change_by};
 use std::alloc::{AllocError, Global};
 use std::marker::Model;

@@ -10,7 +10,10 @@ use crate::relation::Relation;
 use crate::term::{Reading, span, var_of};
 use crate::vars::with_output;
 use dom_cells::{Cells, Hulls, Point, Region};
-use dom_core::{After, Arg, Assignment, Before, Changes, Clause, Interval, Intervals, Literal, Movement, VarId, View};
+use dom_core::{
+    After, Arg, Assignment, Before, Changes, Clause, Interval, Intervals, Literal, Movement, VarId,
+    View,
+};
 use kind_law::{
     Define, Kind, Propagate, are_apart, are_still, change_by, is_function_kept, next_of, reason_of,
 };

@@ -42,7 +42,11 @@ fn is_var(arg: Arg) -> bool
 }
 
 /// The variables with that of the argument at their end, unless it is none or stands among them.
-pub(crate) fn with_output(alloc: Global, vars: &[VarId], output: Arg) -> Result<Vec<VarId>, AllocError>
+pub(crate) fn with_output(
+    alloc: Global,
+    vars: &[VarId],
+    output: Arg,
+) -> Result<Vec<VarId>, AllocError>
     ensures { IfOk result (λ v. v.items ≡ with_new_arg vars.now output) }
 {
     let mut all = Vec::new(alloc);
@@ -75,7 +79,11 @@ fn is_among(vars: &[VarId], var: VarId) -> bool
 }
 
 /// The terms but for the one at the place.
-pub(crate) fn terms_but(alloc: Global, terms: &[Term], place: usize) -> Result<Vec<Term>, AllocError>
+pub(crate) fn terms_but(
+    alloc: Global,
+    terms: &[Term],
+    place: usize,
+) -> Result<Vec<Term>, AllocError>
     requires { place < length terms.now }
     ensures { IfOk result (λ v. v.items ≡ others_at terms.now place) }
 {

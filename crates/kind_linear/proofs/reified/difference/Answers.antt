@@ -12,8 +12,10 @@ new-requires c =
     let d : FitsSigned w128 c.hi-2.result = search rules in
     let e : FitsSigned w128 c.lo-2.result = search rules in
     let fits = difference_fits c.args.after c.args.before (few_bits c.args.after c.requires.after) (few_bits c.args.before c.requires.before) in
-    rw (cast_difference c.lo.result c.hi.result c.args.after.lo c.args.before.hi a b c.lo.ensures.lo c.hi.ensures.hi fits.0,
-      cast_difference c.hi-2.result c.lo-2.result c.args.after.hi c.args.before.lo d e c.hi-2.ensures.hi c.lo-2.ensures.lo fits.1)
+    rw (
+      cast_difference c.lo.result c.hi.result c.args.after.lo c.args.before.hi a b c.lo.ensures.lo c.hi.ensures.hi fits.0,
+      cast_difference c.hi-2.result c.lo-2.result c.args.after.hi c.args.before.lo d e c.hi-2.ensures.hi c.lo-2.ensures.lo fits.1,
+    )
     (difference_order c.args.after c.args.before c.lo.ensures.ordered c.hi.ensures.ordered)
 
 pub returns : goal.returns
