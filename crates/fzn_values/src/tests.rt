@@ -1,1 +1,113 @@
-//! Short texts.
+//! Names of short texts.
+use crate::{Entry, Values, one_integer, one_list};
+use fzn_lex::lex;
+use fzn_occurrences::scope_of;
+use fzn_scope::Scope;
+use fzn_syntax::{Basic, Expression, Items, parse};
+use std::alloc::Global;
+use std::process::Abort;
+use std::test::Fail;
+
+fn shared<T: Send + Sync>(_: &T) {}
+
+fn items(alloc: Global, text: &str) -> Result<Items, Fail> {
+    let tokens = lex(alloc, text.as_bytes())?;
+    Ok(parse(alloc, text.as_bytes(), tokens.as_slice())?)
+}
+
+const DECLARED: &str = "int: a = b;
+int: b = c;
+int: c = 3;
+int: d = e;
+int: e = d;
+int: f = e;
+bool: t = true;
+var int: x;
+array [1..2] of int: one = other;
+array [1..2] of int: other = [a,4];
+array [1..1] of int: round = round;
+array [1..2] of var int: xs = [x,b];
+constraint p([7,a,b,c,d,e,f,t,x,true,1..2,{1}],one,[a,c],round,a);
+solve satisfy;
+";
+
+const WORTH: [(Option<i64>, Option<Entry>); 12] = [
+    (Some(7), Some(Entry::Constant(7))),
+    (Some(3), Some(Entry::Constant(3))),
+    (Some(3), Some(Entry::Constant(3))),
+    (Some(3), Some(Entry::Constant(3))),
+    (None, None),
+    (None, None),
+    (None, None),
+    (None, None),
+    (None, Some(Entry::Variable(7))),
+    (None, None),
+    (None, None),
+    (None, None),
+];
+
+fn tells_worth<R: Abort>(
+    rt: &R,
+    alloc: Global,
+    scope: &Scope<'_>,
+    basics: &[Basic],
+) -> Result<(), Fail> {
+    let values = Values::new(alloc, scope)?;
+    shared(&values);
+    assert_eq!(rt; values.scope().declarations().len(), 12);
+    assert_eq!(rt; basics.len(), 12);
+    for (basic, (worth, entry)) in basics.iter().zip(WORTH) {
+        assert!(rt; values.int_of(basic) == worth, "its worth");
+        assert!(rt; values.entry_of(basic) == entry, "its entry");
+    }
+    Ok(())
+}
+
+#[test]
+fn names_are_worth_what_their_values_are_worth(rt: HostRuntime) -> Result<(), Fail> {
+    one_integer();
+    let items = items(rt.alloc(), DECLARED)?;
+    let scope = scope_of(rt.alloc(), &items)?;
+    for constraint in items.constraints.as_slice() {
+        if let Some(Expression::List(basics)) = constraint.arguments.as_slice().first() {
+            tells_worth(&rt, rt.alloc(), &scope, basics.as_slice())?;
+        }
+    }
+    Ok(())
+}
+
+const LISTS: [Option<[i64; 2]>; 4] = [Some([3, 4]), Some([3, 3]), None, None];
+
+fn tells_lists<R: Abort>(
+    rt: &R,
+    alloc: Global,
+    scope: &Scope<'_>,
+    arguments: &[Expression],
+) -> Result<(), Fail> {
+    let values = Values::new(alloc, scope)?;
+    for (argument, list) in arguments.iter().skip(1).zip(LISTS) {
+        assert!(rt;
+            values.list_of(argument).is_some() == list.is_some(),
+            "a list"
+        );
+        match values.ints_of(alloc, argument)? {
+            None => assert!(rt; list.is_none(), "no integers"),
+            Some(ints) => {
+                let wanted = list.expect(rt, "no list");
+                assert!(rt; ints.as_slice() == wanted.as_slice(), "its integers");
+            }
+        }
+    }
+    Ok(())
+}
+
+#[test]
+fn arrays_stand_for_lists(rt: HostRuntime) -> Result<(), Fail> {
+    one_list();
+    let items = items(rt.alloc(), DECLARED)?;
+    let scope = scope_of(rt.alloc(), &items)?;
+    for constraint in items.constraints.as_slice() {
+        tells_lists(&rt, rt.alloc(), &scope, constraint.arguments.as_slice())?;
+    }
+    Ok(())
+}
