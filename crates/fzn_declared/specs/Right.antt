@@ -65,7 +65,7 @@ IsRightValue ds v = MatchOption v.value (Unit {0}) (IsScalar ds readings.Entry (
 abbrev pub IsRightArray : List Declaration → VariableArray → Type 0
 IsRightArray ds a = IsIndex a.index × AreEntries ds readings.Entry (base_of_variable a.element) a.index.last a.value × All (IsRightMark a.index.last) a.annotations
 
--- the declaration is right, floats and set variables aside, and whether it depends on itself
+-- the declaration is right; floats, set variables and cycles are not looked at
 abbrev pub IsRight : List Declaration → Declaration → Type 0
 IsRight ds (declarations.Parameter p) = IsScalar ds readings.Constant (base_of_parameter p.element) p.value
 IsRight ds (declarations.Variable v) = IsRightValue ds v

@@ -121,8 +121,7 @@ fn is_right_value(scope: &Scope<'_>, variable: &Variable) -> bool
     }
 }
 
-/// Whether the declaration is right, floats and set variables aside, and whether it depends on
-/// itself.
+/// Whether the declaration is right. Floats, set variables and cycles are not looked at.
 pub fn is_right(
     alloc: Global,
     scope: &Scope<'_>,
