@@ -1,11 +1,28 @@
 #!/usr/bin/env bash
-# Times the built program on the model at the limit, three times.
+# Times the built program: on the model at the limit, and on texts at the limit, which are shown, refused for
+# their many variables, and refused for one byte too many.
 set -eu
 cd "$(dirname "$0")/.."
+program=crates/dombreak/out/dombreak
 scratch=$(mktemp -d)
 trap 'rm -rf "$scratch"' EXIT
+
+# timed COMMAND MODEL: three times, with seconds and the peak of memory
+timed() {
+  for turn in 1 2 3; do
+    /usr/bin/time -f "  turn $turn: %e s, %M kB" "$program" "$1" "$2" 2>&1 >"$scratch/printed" | sed 's/^dombreak/  &/' || true
+  done
+}
+
 bench/limit_model.sh >"$scratch/limit.fzn"
-for turn in 1 2 3; do
-  echo "turn $turn"
-  (time crates/dombreak/out/dombreak solve "$scratch/limit.fzn") 2>&1
-done
+bench/long_text.py 4096 >"$scratch/shown.fzn"
+bench/long_text.py 100000 >"$scratch/many.fzn"
+bench/long_text.py 4096 16777217 >"$scratch/long.fzn"
+echo "the model at the limit, solved"
+timed solve "$scratch/limit.fzn"
+echo "16,777,216 bytes with 4,096 variables, shown"
+timed show "$scratch/shown.fzn"
+echo "16,777,216 bytes with 100,000 variables, which are not built"
+timed show "$scratch/many.fzn"
+echo "16,777,217 bytes, which are too long"
+timed show "$scratch/long.fzn"
