@@ -1,0 +1,4 @@
+mod ArgumentLaws
+mod CellLaws
+mod CoverLaws
+mod PlainLaws

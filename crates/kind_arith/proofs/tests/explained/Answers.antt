@@ -1,0 +1,13 @@
+use Rattle.std.proofs.Common.{subst, Some}
+use Rattle.dom_cells.specs.Box.{cell_of}
+use Rattle.kind_law.specs.Next.{IsNext}
+use Rattle.kind_law.proofs.ReasonLaws.{next_cause}
+use Rattle.kind_arith.specs.InSet.{restricted_vars, restriction_refuted}
+use Rattle.kind_arith.proofs.tests.explained.Goals as goal
+
+pub reason-requires-clause-cause : goal.reason-requires-clause-cause
+reason-requires-clause-cause c =
+    let next : IsNext (restriction_refuted c.args.kind.now) (restricted_vars c.args.kind.now) (cell_of c.args.cells.now) (Some c.in-Some.literal) =
+    subst (IsNext (restriction_refuted c.args.kind.now) (restricted_vars c.args.kind.now) (cell_of c.args.cells.now)) c.in-Some.is c.next-implied.ensures in
+    (next_cause (restriction_refuted c.args.kind.now) (restricted_vars c.args.kind.now) c.args.cells.now c.in-Some.literal
+    c.width-width.ensures.sound c.requires.below next).1

@@ -1,0 +1,20 @@
+//! The variables of an argument.
+ghost use Rattle.std.specs.Prelude.{◌≡◌, IfOk};
+ghost use Rattle.kind_arith.specs.Argument.{vars_of};
+
+use dom_core::{Arg, VarId};
+use std::alloc::{AllocError, Global};
+
+/// The argument's variable, where it is one.
+pub(crate) fn variables(alloc: Global, arg: Arg) -> Result<Vec<VarId>, AllocError>
+    ensures { IfOk result (λ v. v.items ≡ vars_of arg) }
+{
+    let mut vars = Vec::new(alloc);
+    match arg {
+        Arg::Const(_) => Ok(vars),
+        Arg::Var(var) => {
+            vars.push(var)?;
+            Ok(vars)
+        }
+    }
+}
