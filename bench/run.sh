@@ -10,7 +10,7 @@ trap 'rm -rf "$scratch"' EXIT
 # timed COMMAND MODEL: three times, with seconds and the peak of memory
 timed() {
   for turn in 1 2 3; do
-    /usr/bin/time -f "  turn $turn: %e s, %M kB" "$program" "$1" "$2" 2>&1 >"$scratch/printed" | sed 's/^dombreak/  &/' || true
+    /usr/bin/time -q -f "  turn $turn: %e s, %M kB" "$program" "$1" "$2" 2>&1 >"$scratch/printed" | sed 's/^dombreak/  &/' || true
   done
 }
 
