@@ -4,8 +4,8 @@ ghost use Rattle.fzn_declared.specs.Values.{value_of};
 ghost use Rattle.fzn_floats.specs.Floats.{HasFloatOrSet};
 ghost use Rattle.fzn_declared.specs.Declares.{DeclaresFloatOrSet};
 
-use fzn_floats::{has_float_or_set, is_float_or_set};
 use crate::value::value_of;
+use fzn_floats::{has_float_or_set, is_float_or_set};
 use fzn_scope::Scope;
 use fzn_syntax::Declaration;
 

@@ -5,8 +5,7 @@ ghost use Rattle.fzn_scope.specs.Sorts.{sort, sort_of, Names};
 ghost use Rattle.fzn_declared.specs.Goals.{AimsAtFloatOrSet, IsRightGoal, IsSolveFault, IsSolveFine};
 
 use crate::fault::ItemFault;
-use fzn_floats::names_float_or_set;
-use fzn_floats::found;
+use fzn_floats::{found, names_float_or_set};
 use fzn_scope::{Base, Scope, Sort, sort_of};
 use fzn_syntax::{Declaration, Goal, Solve};
 

@@ -2,8 +2,8 @@
 ghost use Rattle.std.specs.Prelude.{◌≡◌, ◌↔◌, IsTrue, IfOk, pos};
 ghost use Rattle.fzn_declared.specs.Right.{IsIndex, IsScalar, AreEntries, IsParameters, NamesParameters, IsArray, AreConstants, IsRightValue, IsRightArray, IsRight};
 
-use fzn_floats::found;
 use crate::marks::are_right_marks;
+use fzn_floats::found;
 use fzn_scope::{Base, Reading, Scope, are_all, base_of_parameter, base_of_variable, fits};
 use fzn_syntax::{Basic, Declaration, Expression, IndexRange, Variable, VariableArray};
 use std::alloc::{AllocError, Global};
