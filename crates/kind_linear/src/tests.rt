@@ -1,6 +1,13 @@
+ghost use Rattle.std.specs.Prelude.{◌≡◌, ◌<◌, IfOk, OnOk, length, false, true, pos, negsuc, [], ◌∷◌, ◌++◌};
+ghost use Rattle.dom_core.specs.declared.arg.Arg.{Arg};
+ghost use Rattle.dom_cells.specs.Box.{cell_of, start_at};
+ghost use Rattle.dom_cells.specs.Cell.{Suits};
+ghost use Rattle.kind_law.specs.Laws.{AllBelow, hulls};
+ghost use Rattle.kind_linear.specs.Linear.{form_vars, form_refuted, FormFits};
+
 use super::*;
-use dom_cells::{Cells, Start};
-use dom_core::{Arg, Assignment, Clause, Interval, Literal, Rel, VarId, View};
+use dom_cells::{Cells, Narrowed, Start};
+use dom_core::{Arg, Assignment, Before, Clause, Interval, Literal, Rel, VarId, View};
 use kind_law::{Define, Kind, Propagate, are_still, change_by};
 use std::test::Fail;
 
@@ -76,21 +83,20 @@ fn a_change_is_what_the_row_and_the_ranges_allow(rt: HostRuntime) -> Result<(), 
 }
 
 #[test]
-fn a_bound_implies_an_end(rt: HostRuntime) -> Result<(), Fail> {
-    let args = [Arg::Var(X), Arg::Var(Y)];
-    let kind = Linear::new(rt.alloc(), &[2, 3], &args, Relation::AtMost, 6)?;
+fn a_bound_implies_an_end_of_a_variable_that_comes_once_or_twice(
+    rt: HostRuntime,
+) -> Result<(), Fail> {
     let starts = [Start::Span { lo: 1, hi: 9 }, Start::Span { lo: 0, hi: 1 }];
     let cells = Cells::new(rt.alloc(), &starts)?;
-    if kind.refutes(&cells) {
-        return Err("a sum that may be 2 was given up".into());
+    for (other, bound, end) in [(Y, 6, 3), (X, 24, 4)] {
+        let args = [Arg::Var(X), Arg::Var(other)];
+        let kind = Linear::new(rt.alloc(), &[2, 3], &args, Relation::AtMost, bound)?;
+        if kind.refutes(&cells) {
+            return Err("a sum that may be 5 was given up".into());
+        }
+        let implied = Some(literal(X, Rel::Le, end));
+        assert_eq!(rt; kind.next(&cells), implied, "at most {bound}");
     }
-    let implied = kind.next(&cells);
-    let end = Literal {
-        var: X,
-        rel: Rel::Le,
-        value: 3,
-    };
-    assert_eq!(rt; implied, Some(end));
     Ok(())
 }
 
@@ -106,64 +112,82 @@ fn a_sum_above_its_bound_is_refuted(rt: HostRuntime) -> Result<(), Fail> {
     Ok(())
 }
 
+/// Cuts the cell of the literal's variable, which it must change.
+fn cut(cells: &mut Cells, literal: Literal) -> Result<(), Fail>
+    requires var { literal.var.0 < length cells.old.starts }
+    requires suits { Suits (start_at cells.old.starts literal.var.0) literal.rel }
+    ensures starts { OnOk result (cells.new.starts ≡ cells.old.starts) }
+    ensures literals { OnOk result (cells.new.literals ≡ cells.old.literals ++ literal ∷ []) }
+{
+    cells.reserve(1)?;
+    match cells.narrow(literal) {
+        Narrowed::Changed => Ok(()),
+        Narrowed::Same => Err("a cell was not cut".into()),
+        Narrowed::Emptied => Err("a cell would be empty".into()),
+    }
+}
+
+/// The end that is implied, with its reason in `out`.
+fn explained(kind: &Linear, cells: &Cells, out: &mut Clause) -> Result<Option<Literal>, Fail>
+    requires below { AllBelow (length cells.now.starts) (form_vars kind.now) }
+    requires fits { FormFits kind.now (hulls (cell_of cells.now)) }
+    requires quiet { form_refuted kind.now (cell_of cells.now) ≡ false }
+{
+    let _width = cells.width();
+    let implied = kind.next(cells);
+    if let Some(literal) = implied {
+        kind.reason(cells, Some(literal), out)?;
+    }
+    Ok(implied)
+}
+
+fn literal(var: VarId, rel: Rel, value: i64) -> Literal
+    ensures { result ≡ record { var = var; rel = rel; value = value } }
+{
+    Literal { var, rel, value }
+}
+
 #[test]
-fn cells_that_never_moved_are_refuted_for_no_reason_but_the_sum(
-    rt: HostRuntime,
-) -> Result<(), Fail> {
+fn a_reason_names_the_ends_that_moved_and_the_implied_end(rt: HostRuntime) -> Result<(), Fail> {
     let args = [Arg::Var(X), Arg::Var(Y)];
-    let kind = Linear::new(rt.alloc(), &[2, 3], &args, Relation::AtMost, 1)?;
-    let starts = [Start::Span { lo: 1, hi: 9 }, Start::Span { lo: 0, hi: 1 }];
-    let cells = Cells::new(rt.alloc(), &starts)?;
-    let mut reason = Clause::new(rt.alloc());
+    let kind = Linear::new(rt.alloc(), &[2, 3], &args, Relation::AtMost, 20)?;
+    let starts = [Start::Span { lo: 0, hi: 9 }, Start::Span { lo: 0, hi: 5 }];
+    let mut cells = Cells::new(rt.alloc(), &starts)?;
+    let mut out = Clause::new(rt.alloc());
+    cut(&mut cells, literal(Y, Rel::Ge, 4))?;
+    if kind.refutes(&cells) {
+        return Err("a sum that may be 12 was given up".into());
+    }
+    let implied = explained(&kind, &cells, &mut out)?;
+    let (end, low) = (literal(X, Rel::Le, 4), literal(Y, Rel::Le, 3));
+    assert_eq!(rt; implied, Some(end));
+    assert_eq!(rt; out.literals(), [low, end].as_slice());
+    cut(&mut cells, literal(X, Rel::Ge, 5))?;
     if !kind.refutes(&cells) {
-        return Err("a sum of at least 2 is not given up".into());
+        return Err("a sum of at least 22 was not given up".into());
     }
-    kind.reason(&cells, None, &mut reason)?;
-    assert!(rt; reason.literals().is_empty());
+    kind.reason(&cells, None, &mut out)?;
+    assert_eq!(rt; out.literals(), [end, low].as_slice());
     Ok(())
 }
 
 #[test]
-fn comparisons_are_sums(rt: HostRuntime) -> Result<(), Fail> {
+fn comparisons_and_negations_are_sums(rt: HostRuntime) -> Result<(), Fail> {
     let args = [Arg::Var(X), Arg::Var(Y)];
-    let mut a = Assignment::zeros(rt.alloc(), 2)?;
-    a.set(X, 1);
-    a.set(Y, 2);
-    for (name, relation, bound, met) in [
-        ("at most", Relation::AtMost, 0, true),
-        ("less", Relation::AtMost, -1, true),
-        ("equal", Relation::Equal, 0, false),
-        ("different", Relation::Differ, 0, true),
+    let zeros = Assignment::zeros(rt.alloc(), 2)?;
+    let mut one = Assignment::zeros(rt.alloc(), 2)?;
+    one.set(X, 1);
+    for (name, coef, relation, bound, of_zero, of_one) in [
+        ("at most", -1, Relation::AtMost, 0, true, false),
+        ("less than", -1, Relation::AtMost, -1, false, false),
+        ("equal to", -1, Relation::Equal, 0, true, false),
+        ("other than", -1, Relation::Differ, 0, false, true),
+        ("the negation of", 1, Relation::Equal, 1, false, true),
     ] {
-        let kind = Linear::new(rt.alloc(), &[1, -1], &args, relation, bound)?;
-        assert_eq!(rt; kind.holds(&a), met, "1 is {name} 2");
+        let kind = Linear::new(rt.alloc(), &[1, coef], &args, relation, bound)?;
+        assert_eq!(rt; kind.holds(&zeros), of_zero, "0 is {name} 0");
+        assert_eq!(rt; kind.holds(&one), of_one, "1 is {name} 0");
     }
-    a.set(X, 2);
-    for (name, relation, bound, met) in [
-        ("at most", Relation::AtMost, 0, true),
-        ("less", Relation::AtMost, -1, false),
-        ("equal", Relation::Equal, 0, true),
-        ("different", Relation::Differ, 0, false),
-    ] {
-        let kind = Linear::new(rt.alloc(), &[1, -1], &args, relation, bound)?;
-        assert_eq!(rt; kind.holds(&a), met, "2 is {name} 2");
-    }
-    Ok(())
-}
-
-#[test]
-fn negations_and_sums_are_equations(rt: HostRuntime) -> Result<(), Fail> {
-    let mut a = Assignment::zeros(rt.alloc(), 3)?;
-    a.set(Y, 1);
-    a.set(Z, 1);
-    let pair = [Arg::Var(X), Arg::Var(Y)];
-    let negated = Linear::new(rt.alloc(), &[1, 1], &pair, Relation::Equal, 1)?;
-    assert!(rt; negated.holds(&a), "1 is the negation of 0");
-    let same = Linear::new(rt.alloc(), &[1, -1], &pair, Relation::Equal, 0)?;
-    assert!(rt; !same.holds(&a), "0 is not the number of true");
-    let three = [Arg::Var(X), Arg::Var(Y), Arg::Var(Z)];
-    let sum = Linear::new(rt.alloc(), &[1, 1, -1], &three, Relation::Equal, 0)?;
-    assert!(rt; sum.holds(&a), "0 and 1 are 1");
     Ok(())
 }
 
@@ -171,16 +195,41 @@ fn negations_and_sums_are_equations(rt: HostRuntime) -> Result<(), Fail> {
 fn an_equation_is_solved_where_its_variable_stands_once(rt: HostRuntime) -> Result<(), Fail> {
     let args = [Arg::Var(X), Arg::Var(Y), Arg::Var(Z)];
     let linear = Linear::new(rt.alloc(), &[2, 1, -1], &args, Relation::Equal, 0)?;
-    assert!(rt; !linear.can_define(0), "the coefficient is 2");
-    assert!(rt; linear.can_define(1));
+    for (place, can) in [(0, false), (1, true), (2, true), (3, false)] {
+        assert_eq!(rt; linear.can_define(place), can, "place {place}");
+    }
+    Ok(())
+}
+
+/// The equation 3 x + 2 y - z = 4, solved for z.
+fn solved(rt: &HostRuntime) -> Result<LinearOutput, Fail>
+    ensures { IfOk result (λ d. d ≡ record { front = record { coef = pos 3; arg = Arg.Var (record { 0 = 0 }) } ∷ record { coef = pos 2; arg = Arg.Var (record { 0 = 1 }) } ∷ []; turned = true; output = record { 0 = 2 }; back = []; bound = pos 4 }) }
+{
+    let args = [Arg::Var(X), Arg::Var(Y), Arg::Var(Z)];
+    let linear = Linear::new(rt.alloc(), &[3, 2, -1], &args, Relation::Equal, 4)?;
     if !linear.can_define(2) {
         return Err("the coefficient -1 was refused".into());
     }
-    let kind = LinearOutput::new(rt.alloc(), linear, 2)?;
+    Ok(LinearOutput::new(rt.alloc(), linear, 2)?)
+}
+
+#[test]
+fn an_equation_gives_a_value_and_a_range_and_a_change(rt: HostRuntime) -> Result<(), Fail> {
+    let kind = solved(&rt)?;
     shared(&kind);
     assert_eq!(rt; kind.output(), Z);
     assert_eq!(rt; kind.vars(), [X, Y, Z].as_slice());
     assert!(rt; !kind.is_inside(Z));
+    let mut a = Assignment::zeros(rt.alloc(), 3)?;
+    a.set(X, 5);
+    a.set(Y, -1);
+    assert_eq!(rt; kind.value(&a), 9);
+    let mut view = View::for_vars(rt.alloc(), 3)?;
+    let (bit, two) = (Interval::new(0, 1), Interval::new(0, 2));
+    view.set(X, bit, Interval::new(1, 1), bit);
+    view.set(Y, two, two, Interval::new(-1, 0));
+    assert_eq!(rt; kind.range(&Before(&view)), Interval::new(-4, 3));
+    assert_eq!(rt; kind.change(&view), Interval::new(-2, 3));
     Ok(())
 }
 
@@ -232,19 +281,21 @@ fn a_truth_that_is_certain_is_not_0(rt: HostRuntime) -> Result<(), Fail> {
 }
 
 #[test]
-fn a_repeated_variable_is_asked_about_as_a_whole(rt: HostRuntime) -> Result<(), Fail> {
-    let args = [Arg::Var(X), Arg::Var(X)];
-    let kind = Linear::new(rt.alloc(), &[2, 3], &args, Relation::AtMost, 15)?;
-    let starts = [Start::Span { lo: 0, hi: 9 }];
-    let cells = Cells::new(rt.alloc(), &starts)?;
-    if kind.refutes(&cells) {
-        return Err("a sum that may be 0 was given up".into());
-    }
-    let end = Literal {
-        var: X,
-        rel: Rel::Le,
-        value: 3,
-    };
-    assert_eq!(rt; kind.next(&cells), Some(end));
+fn a_truth_has_a_value_and_a_range_and_a_change(rt: HostRuntime) -> Result<(), Fail> {
+    let args = [Arg::Var(X), Arg::Var(Y)];
+    let out = Arg::Var(Z);
+    let kind = LinearReified::new(rt.alloc(), &[2, 3], &args, Relation::AtMost, 4, out)?;
+    let mut a = Assignment::zeros(rt.alloc(), 3)?;
+    a.set(X, 2);
+    assert_eq!(rt; kind.value(&a), 1);
+    a.set(Y, 1);
+    assert_eq!(rt; kind.value(&a), 0);
+    let mut view = View::for_vars(rt.alloc(), 3)?;
+    let (bit, two) = (Interval::new(0, 1), Interval::new(0, 2));
+    view.set(X, two, bit, Interval::new(-1, 0));
+    assert_eq!(rt; kind.range(&Before(&view)), Interval::new(1, 1));
+    view.set(Y, bit, bit, Interval::new(0, 0));
+    assert_eq!(rt; kind.range(&Before(&view)), bit);
+    assert_eq!(rt; kind.change(&view), bit);
     Ok(())
 }
