@@ -1,4 +1,5 @@
 pub mod RunLaws
+pub mod SeenLaws
 pub mod VarLaws
 pub mod SolvedLaws
 pub mod SlackLaws

@@ -6,6 +6,7 @@ pub mod OutputLaws
 pub mod Reified
 pub mod ReifiedLaws
 pub mod Relation
+pub mod Seen
 pub mod Slack
 pub mod Sum
 pub mod SumLaws

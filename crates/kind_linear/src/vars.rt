@@ -1,21 +1,45 @@
 //! The variables of terms.
 ghost use Rattle.std.specs.Prelude.{◌≡◌, ◌<◌, IfOk, OnOk, length};
+ghost use Rattle.std.specs.Ordering.{nat_cmp};
+ghost use Rattle.std.specs.BTreeSet.{contains};
+ghost use Rattle.kind_linear.specs.Seen.{TellsListed};
 ghost use Rattle.kind_linear.specs.Sum.{is_variable, vars_of, distinct, is_listed, with_new_arg};
 ghost use Rattle.kind_linear.specs.Output.{is_alone, is_read_by, others_at};
 
 use crate::term::Term;
 use dom_core::{Arg, VarId};
 use std::alloc::{AllocError, Global};
+use std::collections::BTreeSet;
 
 /// The variables of the terms, each once, in the order in which they come first.
+#[tactic(auto, using(crate::proofs::SeenLaws::none_seen))]
 pub(crate) fn distinct_vars(alloc: Global, terms: &[Term]) -> Result<Vec<VarId>, AllocError>
     ensures { IfOk result (λ v. v.items ≡ distinct (vars_of terms.now)) }
 {
     let mut vars = Vec::new(alloc);
+    let mut seen = BTreeSet::new(alloc);
     for term in terms {
-        add_new(&mut vars, term.arg)?;
+        add_unseen(&mut vars, &mut seen, term.arg)?;
     }
     Ok(vars)
+}
+
+/// Puts the argument's variable at the end, unless it is a constant or was seen.
+#[tactic(auto, using(crate::proofs::SeenLaws::with_unseen, crate::proofs::SeenLaws::with_seen, crate::proofs::SeenLaws::was_new, crate::proofs::SeenLaws::was_there, crate::proofs::SeenLaws::seen_more))]
+fn add_unseen(vars: &mut Vec<VarId>, seen: &mut BTreeSet<u32>, arg: Arg) -> Result<(), AllocError>
+    requires { TellsListed vars.old.items (contains nat_cmp seen.old) }
+    ensures list { OnOk result (vars.new.items ≡ with_new_arg vars.old.items arg) }
+    ensures seen { OnOk result (TellsListed vars.new.items (contains nat_cmp seen.new)) }
+{
+    match arg {
+        Arg::Const(_) => Ok(()),
+        Arg::Var(var) => {
+            if seen.insert(var.0)? {
+                vars.push(var)?;
+            }
+            Ok(())
+        }
+    }
 }
 
 /// How many terms have a variable.
