@@ -1,3 +1,4 @@
 mod Different
 mod Firsts
+mod Marked
 mod Told

@@ -15,7 +15,7 @@ use Rattle.fzn_scope.specs.Names.{IsNamed, IsUndeclared}
 use Rattle.fzn_scope.specs.Sorts.{sort_of, Names}
 use Rattle.fzn_values.specs.Worth.{AreIntsOf}
 use Rattle.fzn_posted.specs.Arguments.{IsOfType, IsArgumentAt, AreArguments}
-use Rattle.fzn_posted.specs.Shapes.{last_of, IsLengthOfName, IsLength, HaveOneLength, HaveOneLengthAt, AreDifferent, HasDifferent, HasDifferentAt, MeetsShape}
+use Rattle.fzn_posted.specs.Shapes.{last_of, IsLengthOfName, IsLength, HaveOneLength, HaveOneLengthAt, AreDifferent, HasDifferent, HasDifferentAt}
 use Rattle.fzn_posted.specs.Posted.{FitsEntry, IsPosted}
 
 some_same : {A : Type 0} → (x y : A) → Some x ≡ Some y → x ≡ y

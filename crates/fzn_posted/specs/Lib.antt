@@ -1,4 +1,5 @@
 pub mod Arguments
 pub mod Shapes
+pub mod Marks
 pub mod Posted
 pub mod Faults

@@ -1,6 +1,6 @@
 //! Numbers that are to be different.
 ghost use Rattle.std.specs.Prelude.{◌≡◌, ◌↔◌, ◌<◌, length, slice_get, Some, IsTrue, IfOk};
-ghost use Rattle.fzn_posted.specs.Shapes.{AreDifferent, HasDifferent, HasDifferentAt};
+ghost use Rattle.fzn_posted.specs.Shapes.{AreDifferent, HasDifferent};
 
 use fzn_syntax::Expression;
 use fzn_values::Values;
@@ -28,7 +28,8 @@ fn are_different(alloc: Global, ints: &[i64]) -> Result<bool, AllocError>
     Ok(true)
 }
 
-fn has_different(
+// Whether the expression stands for integers that are different; the whole list is looked at.
+pub(crate) fn has_different(
     alloc: Global,
     values: &Values<'_>,
     expression: &Expression,
@@ -38,20 +39,5 @@ fn has_different(
     match values.ints_of(alloc, expression)? {
         None => Ok(false),
         Some(ints) => are_different(alloc, ints.as_slice()),
-    }
-}
-
-// Whether the argument at this place stands for integers that are different.
-pub(crate) fn has_different_at(
-    alloc: Global,
-    values: &Values<'_>,
-    arguments: &[Expression],
-    place: usize,
-) -> Result<bool, AllocError>
-    ensures { IfOk result (λ b. IsTrue b ↔ HasDifferentAt values.now arguments.now place) }
-{
-    match arguments.get(place) {
-        None => Ok(false),
-        Some(argument) => has_different(alloc, values, argument),
     }
 }

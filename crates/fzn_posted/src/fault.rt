@@ -3,7 +3,8 @@ ghost use Rattle.std.specs.Prelude.{◌↔◌, IsTrue, IfOk, MatchOption};
 ghost use Rattle.fzn_posted.specs.declared.fault.ConstraintFault.{ConstraintFault as Fault};
 ghost use Rattle.fzn_posted.specs.Faults.{PostsFloatOrSet, IsFaultOf, IsFine, IsFirstFault, HaveOneFirst};
 
-use crate::posted::is_posted;
+use crate::distinct::Distinct;
+use crate::posted::is_right;
 use fzn_floats::has_float_or_set;
 use fzn_scope::Scope;
 use fzn_syntax::Constraint;
@@ -36,19 +37,34 @@ fn posts_float_or_set(scope: &Scope<'_>, constraint: &Constraint) -> bool
 
 fn fault_of(
     alloc: Global,
-    values: &Values<'_>,
+    distinct: &Distinct<'_>,
     constraint: &Constraint,
 ) -> Result<Option<ConstraintFault>, AllocError>
-    ensures { IfOk result (λ r. MatchOption r ((f : Fault) → IsFaultOf values.now constraint.now f → ⊥) (IsFaultOf values.now constraint.now)) }
+    ensures { IfOk result (λ r. MatchOption r ((f : Fault) → IsFaultOf distinct.now constraint.now f → ⊥) (IsFaultOf distinct.now constraint.now)) }
 {
     let at = constraint.name.at;
-    if posts_float_or_set(values.scope(), constraint) {
+    if posts_float_or_set(distinct.values().scope(), constraint) {
         return Ok(Some(ConstraintFault::FloatOrSet { at }));
     }
-    if is_posted(alloc, values, constraint)? {
+    if is_right(alloc, distinct, constraint)? {
         return Ok(None);
     }
     Ok(Some(ConstraintFault::Wrong { at }))
+}
+
+fn first_among(
+    alloc: Global,
+    distinct: &Distinct<'_>,
+    constraints: &[Constraint],
+) -> Result<Option<ConstraintFault>, AllocError>
+    ensures { IfOk result (λ first. MatchOption first (IsFine distinct.now constraints.now) (IsFirstFault distinct.now constraints.now)) }
+{
+    for constraint in constraints {
+        if let Some(fault) = fault_of(alloc, distinct, constraint)? {
+            return Ok(Some(fault));
+        }
+    }
+    Ok(None)
 }
 
 /// What the first constraint at fault has, at its name.
@@ -59,10 +75,6 @@ pub fn first_fault(
 ) -> Result<Option<ConstraintFault>, AllocError>
     ensures { IfOk result (λ first. MatchOption first (IsFine values.now constraints.now) (IsFirstFault values.now constraints.now)) }
 {
-    for constraint in constraints {
-        if let Some(fault) = fault_of(alloc, values, constraint)? {
-            return Ok(Some(fault));
-        }
-    }
-    Ok(None)
+    let distinct = Distinct::new(alloc, values)?;
+    first_among(alloc, &distinct, constraints)
 }

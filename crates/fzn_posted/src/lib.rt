@@ -3,8 +3,10 @@
 
 mod argument;
 mod covers;
+mod distinct;
 mod fault;
 mod length;
+mod marks;
 mod posted;
 
 pub use argument::is_of_type;

@@ -19,6 +19,9 @@ set of int: s = {1,3};
 array [1..2] of int: cs = ds;
 array [1..2] of int: ds = [1,2];
 array [1..2] of int: twice = [k,l];
+array [1..2] of int: far = near;
+array [1..2] of int: near = twice;
+array [1..2] of int: es = cs;
 array [1..2] of bool: bs = [true,t];
 var 1..3: x;
 var int: y;
@@ -65,7 +68,7 @@ fn fault(alloc: Global, constraints: &str) -> Result<Option<(bool, u64)>, Fail> 
 }
 
 // One of each name.
-const RIGHT: [&str; 46] = [
+const RIGHT: [&str; 47] = [
     "array_bool_and([b,true],r)",
     "array_bool_element(x,bs,b)",
     "array_bool_or(ps,r)",
@@ -90,6 +93,7 @@ const RIGHT: [&str; 46] = [
     "fzn_count_eq(xs,k,y)",
     "fzn_global_cardinality([x],cs,xs)",
     "fzn_global_cardinality([x],[l,4],[y,x])",
+    "fzn_global_cardinality([x],es,xs)",
     "int_abs(x,y)",
     "int_eq(x,k)",
     "int_eq_reif(x,3,r)",
@@ -123,7 +127,7 @@ fn right_arguments_are_fine(rt: HostRuntime) -> Result<(), Fail> {
     Ok(())
 }
 
-const WRONG: [&str; 20] = [
+const WRONG: [&str; 22] = [
     "int_eq(x)",
     "int_eq(x,y,x)",
     "int_eq(x,b)",
@@ -143,6 +147,8 @@ const WRONG: [&str; 20] = [
     "int_lin_le_reif([1,2,3],xs,1,r)",
     "fzn_global_cardinality([x],[3,k],xs)",
     "fzn_global_cardinality([x],twice,xs)",
+    "fzn_global_cardinality([x],near,xs)",
+    "fzn_global_cardinality([x],far,xs)",
     "fzn_global_cardinality([x],cs,three)",
 ];
 
@@ -154,6 +160,42 @@ fn wrong_arguments_are_told_at_the_name(rt: HostRuntime) -> Result<(), Fail> {
             fault(rt.alloc(), text.as_str())? == Some((false, 11)),
             "{constraint}"
         );
+    }
+    Ok(())
+}
+
+// Constraints over one list of 20,000 covers and its names; the covers are different but for the
+// last, where that is below 19,999.
+fn long_text(alloc: Global, last: u32) -> Result<String, Fail> {
+    let mut text = String::new(alloc);
+    text.push_str("var int: x;\narray [1..20000] of int: a = [")?;
+    for cover in 0..19_999 {
+        let entry = format!(in alloc; "{cover},")?;
+        text.push_str(entry.as_str())?;
+    }
+    let named = format!(in alloc; "{last}];\narray [1..20000] of int: b = c;\n")?;
+    text.push_str(named.as_str())?;
+    text.push_str("array [1..20000] of int: c = a;\n")?;
+    for _ in 0..1_000 {
+        text.push_str("constraint fzn_global_cardinality([x],a,b);\n")?;
+        text.push_str("constraint fzn_global_cardinality([x],b,a);\n")?;
+    }
+    text.push_str("solve satisfy;\n")?;
+    Ok(text)
+}
+
+fn is_fine(alloc: Global, text: &str) -> Result<bool, Fail> {
+    let items = items(alloc, text)?;
+    let scope = scope_of(alloc, &items)?;
+    let found = first(alloc, &scope, items.constraints.as_slice())?;
+    Ok(found.is_none())
+}
+
+#[test]
+fn many_constraints_name_one_long_list(rt: HostRuntime) -> Result<(), Fail> {
+    for (last, fine) in [(19_999, true), (0, false), (19_998, false)] {
+        let text = long_text(rt.alloc(), last)?;
+        assert!(rt; is_fine(rt.alloc(), text.as_str())? == fine, "{last}");
     }
     Ok(())
 }

@@ -12,9 +12,9 @@ use Rattle.fzn_values.specs.declared.entry.Entry.{Entry}
 use Rattle.fzn_values.specs.declared.entry.Entry.TheVariants.{Constant, Variable}
 use Rattle.fzn_values.specs.declared.literal.Literal.{Literal}
 use Rattle.fzn_values.specs.declared.literal.Literal.TheVariants as literals
-use Rattle.fzn_values.specs.Literals.{is_number, is_literal, name_in, named_by, value_for, StandsFor, itself, through}
-use Rattle.fzn_values.specs.Links.{IsValueLink, IsLiteralOf, NameStandsFor}
-use Rattle.fzn_values.specs.Worth.{number, IsIntOf, IsListOf, AreInts, AreIntsOf, IsIntegerVariable, IsVariableOf, IsEntryOf}
+use Rattle.fzn_values.specs.Literals.{is_number, is_literal, name_in, named_by, value_for, StandsFor, itself}
+use Rattle.fzn_values.specs.Links.{IsValueLink, IsLiteralOf, NameStandsFor, NamesListAt}
+use Rattle.fzn_values.specs.Worth.{number, IsIntOf, IsListOf, IsListAt, AreInts, AreIntsOf, IsIntegerVariable, IsVariableOf, IsEntryOf}
 use Rattle.fzn_values.proofs.Named.{some_same, one_place, stands_literal, written, by_name, of_name, one_literal}
 
 pub copied_some : {X : Type 0} (r : Option (Bor X)) (N : Type 0) (P : X → Type 0) (x : X) → option_copied r ≡ Some x → P x → MatchOption r N (λ y. P y.now)
@@ -34,6 +34,14 @@ module _ (ds : List Declaration) (literal : Literal) (n : List ℕ) (place : ℕ
   name_has_some e f r N h there told =
       let same : h.2 ≡ f = some_same h.2 f (sym h.5 ∙ there) in
       copied_some r N (NameStandsFor ds literal n) h.1 (told ∙ ap (value_for literal) (sym same) ∙ h.6) (d, h.0, named, h.3, h.4)
+
+-- a name's end is the place of the list that the name stands for
+pub list_place : (ds : List Declaration) (n : List ℕ) (place : ℕ) → AreDifferent (names_of ds) → IsPlaced ds n place → (r : Option ℕ)
+    → ((d : Declaration) → slice_get ds place ≡ Some d → IsLiteralOf ds literals.List d r) → MatchOption r ((l : Expression) → NameStandsFor ds literals.List n l → ⊥) (NamesListAt ds n)
+list_place ds n place different p None h = name_has_none ds literals.List n place p.0 p.1 (place, p.1, p.2) different (h p.0 p.1)
+list_place ds n place different p (Some e) h =
+    let g = h p.0 p.1 in
+    (g.2, g.1, g.5, g.6, (p.0, g.0, (place, p.1, p.2), g.3, g.4))
 
 module _ (ds : List Declaration) (b : Basic) (r : Option ℤ) where
   pub int_written : name_in b ≡ None → MatchOption r (is_number b ≡ false) (λ z. b ≡ number z) → MatchOption r ((z : ℤ) → IsIntOf ds b z → ⊥) (IsIntOf ds b)
@@ -70,12 +78,31 @@ module _ (ds : List Declaration) (e : Expression) (r : Option (Bor (List Basic))
       by None not = let w = stands_literal ds literals.List s.1 l s.4 in absurd cc
       by (Some bs) same = subst (λ x. StandsFor ds literals.List e x) same (of_name ds literals.List e l n is s)
 
-pub list_unnamed : (ds : List Declaration) (e : Expression) (n : List ℕ) → named_by e ≡ Some n → ((l : Expression) → NameStandsFor ds literals.List n l → ⊥) → (bs : List Basic) → IsListOf ds e bs → ⊥
-list_unnamed ds e n is none bs s = none (expressions.List bs) (by_name ds literals.List e (expressions.List bs) n is s)
-
 pub one_list : (ds : List Declaration) (e : Expression) (bs cs : List Basic) → AreDifferent (names_of ds) → IsListOf ds e bs → IsListOf ds e cs → bs ≡ cs
 one_list ds e bs cs different h g =
     let l : expressions.List bs ≡ expressions.List cs = one_literal ds literals.List different e (expressions.List bs) (expressions.List cs) h g in cc
+
+literal_list : (l : Expression) → is_literal literals.List l ≡ true → (bs : List Basic) × (l ≡ expressions.List bs)
+literal_list (expressions.Basic b) is = absurd cc
+literal_list (expressions.List bs) is = (bs, refl)
+
+pub no_list_at : (ds : List Declaration) (e : Expression) → named_by e ≡ None → (k : ℕ) → IsListAt ds e k → ⊥
+no_list_at ds e none k h = let named = h.3 in absurd cc
+
+pub list_at : (ds : List Declaration) (e : Expression) (n : List ℕ) → named_by e ≡ Some n → (r : Option ℕ) → MatchOption r ((l : Expression) → NameStandsFor ds literals.List n l → ⊥) (NamesListAt ds n)
+    → MatchOption r ((k : ℕ) → IsListAt ds e k → ⊥) (IsListAt ds e)
+list_at ds e n is None none = λ k h. none (expressions.List h.2) (by_name ds literals.List e (expressions.List h.2) n is h.6)
+list_at ds e n is (Some k) h =
+    let s : StandsFor ds literals.List e h.1 = of_name ds literals.List e h.1 n is h.4 in
+    let l = literal_list h.1 (stands_literal ds literals.List e h.1 s) in
+    (n, h.0, l.0, is, h.2, h.3 ∙ ap Some l.1, subst (λ x. StandsFor ds literals.List e x) l.1 s)
+
+pub one_list_at : (ds : List Declaration) (e : Expression) → AreDifferent (names_of ds) → (r : Option ℕ) → IfSome r (λ k. (bs cs : List Basic) → IsListOf ds e bs → IsListOf ds e cs → cs ≡ bs)
+one_list_at ds e different None = tt
+one_list_at ds e different (Some k) = λ bs cs h g. one_list ds e cs bs different g h
+
+pub list_unnamed : (ds : List Declaration) (e : Expression) (n : List ℕ) → named_by e ≡ Some n → ((l : Expression) → NameStandsFor ds literals.List n l → ⊥) → (bs : List Basic) → IsListOf ds e bs → ⊥
+list_unnamed ds e n is none bs s = none (expressions.List bs) (by_name ds literals.List e (expressions.List bs) n is s)
 
 pub one_integer : (ds : List Declaration) (b : Basic) (y z : ℤ) → AreDifferent (names_of ds) → IsIntOf ds b y → IsIntOf ds b z → y ≡ z
 one_integer ds b y z different h g =

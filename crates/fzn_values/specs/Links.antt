@@ -1,5 +1,5 @@
 -- Where the names in values of declarations lead.
-use Rattle.std.specs.Prelude.{◌≡◌, ℕ, true, false, List, length, slice_get, Option, None, Some, MatchOption}
+use Rattle.std.specs.Prelude.{◌≡◌, ℕ, true, false, List, slice_get, Option, None, Some, MatchOption}
 use Rattle.chains.specs.declared.link.Link.{Link}
 use Rattle.chains.specs.declared.link.Link.TheVariants.{End, To, Nothing}
 use Rattle.chains.specs.Chains.{link_at, end_at}
@@ -7,6 +7,7 @@ use Rattle.fzn_syntax.specs.declared.declaration.Declaration.{Declaration}
 use Rattle.fzn_syntax.specs.declared.expression.Expression.{Expression}
 use Rattle.fzn_scope.specs.Names.{IsPlaced, IsNamed, IsUndeclared}
 use Rattle.fzn_values.specs.declared.literal.Literal.{Literal}
+use Rattle.fzn_values.specs.declared.literal.Literal.TheVariants as literals
 use Rattle.fzn_values.specs.Literals.{is_literal, named_by, value_for, StandsFor}
 
 -- where a value leads that is to stand for such a literal
@@ -32,3 +33,7 @@ AreLiterals ds literal ends = (k : ℕ) (d : Declaration) → slice_get ds k ≡
 -- what a name stands for
 abbrev pub NameStandsFor : List Declaration → Literal → List ℕ → Expression → Type 0
 NameStandsFor ds literal n l = (d : Declaration) × (v : Expression) × IsNamed ds n d × (value_for literal d ≡ Some v) × StandsFor ds literal v l
+
+-- the name stands for the list that is the value of the declaration at this place
+abbrev pub NamesListAt : List Declaration → List ℕ → ℕ → Type 0
+NamesListAt ds n k = (d : Declaration) × (l : Expression) × (slice_get ds k ≡ Some d) × (value_for literals.List d ≡ Some l) × NameStandsFor ds literals.List n l

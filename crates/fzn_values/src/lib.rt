@@ -7,7 +7,7 @@ mod literal;
 mod values;
 
 pub use entry::Entry;
-pub use literal::Literal;
+pub use literal::{Literal, is_literal, value_for};
 pub use values::{Values, one_integer, one_list};
 
 #[cfg(test)]

@@ -28,7 +28,8 @@ fn is_number(basic: &Basic) -> bool
     }
 }
 
-pub(crate) fn is_literal(literal: Literal, expression: &Expression) -> bool
+/// Whether the expression is such a literal itself.
+pub fn is_literal(literal: Literal, expression: &Expression) -> bool
     ensures { result ≡ is_literal literal expression.now }
 {
     match expression {
@@ -93,8 +94,8 @@ fn list_value_of(declaration: &Declaration) -> Option<&Expression>
     }
 }
 
-// The value of a declaration whose name may stand for such a literal.
-pub(crate) fn value_for(literal: Literal, declaration: &Declaration) -> Option<&Expression>
+/// The value of a declaration whose name may stand for such a literal.
+pub fn value_for(literal: Literal, declaration: &Declaration) -> Option<&Expression>
     ensures { option_copied result ≡ value_for literal declaration.now }
 {
     match literal {

@@ -1,5 +1,5 @@
 //! Names of short texts.
-use crate::{Entry, Values, one_integer, one_list};
+use crate::{Entry, Literal, Values, is_literal, one_integer, one_list, value_for};
 use fzn_lex::lex;
 use fzn_occurrences::scope_of;
 use fzn_scope::Scope;
@@ -108,6 +108,39 @@ fn arrays_stand_for_lists(rt: HostRuntime) -> Result<(), Fail> {
     let scope = scope_of(rt.alloc(), &items)?;
     for constraint in items.constraints.as_slice() {
         tells_lists(&rt, rt.alloc(), &scope, constraint.arguments.as_slice())?;
+    }
+    Ok(())
+}
+
+const PLACES: [Option<usize>; 5] = [None, Some(9), None, None, None];
+
+fn tells_places<R: Abort>(
+    rt: &R,
+    alloc: Global,
+    scope: &Scope<'_>,
+    arguments: &[Expression],
+) -> Result<(), Fail> {
+    let values = Values::new(alloc, scope)?;
+    assert_eq!(rt; arguments.len(), 5);
+    for (argument, place) in arguments.iter().zip(PLACES) {
+        assert!(rt; values.place_of_list(argument) == place, "its place");
+        if let Some(declaration) = scope.declarations().get(place.unwrap_or(0)) {
+            let written = value_for(Literal::List, declaration);
+            assert!(rt;
+                written.is_some_and(|value| is_literal(Literal::List, value)) == place.is_some(),
+                "its own list"
+            );
+        }
+    }
+    Ok(())
+}
+
+#[test]
+fn names_lead_to_the_list_that_is_written(rt: HostRuntime) -> Result<(), Fail> {
+    let items = items(rt.alloc(), DECLARED)?;
+    let scope = scope_of(rt.alloc(), &items)?;
+    for constraint in items.constraints.as_slice() {
+        tells_places(&rt, rt.alloc(), &scope, constraint.arguments.as_slice())?;
     }
     Ok(())
 }

@@ -5,8 +5,9 @@ ghost use Rattle.fzn_syntax.specs.declared.expression.Basic.{Basic};
 ghost use Rattle.fzn_syntax.specs.declared.expression.Expression.{Expression};
 ghost use Rattle.fzn_scope.specs.Names.{names_of, AreDifferent};
 ghost use Rattle.fzn_values.specs.declared.entry.Entry.{Entry as EntryOf};
-ghost use Rattle.fzn_values.specs.Links.{AreLiterals, IsLiteralOf, NameStandsFor};
-ghost use Rattle.fzn_values.specs.Worth.{IsIntOf, IsListOf, AreInts, AreIntsOf, IsEntryOf, IsVariableOf, IsIntegerVariable, HasOneInteger, HasOneList};
+ghost use Rattle.fzn_values.specs.declared.literal.Literal.TheVariants as literals;
+ghost use Rattle.fzn_values.specs.Links.{AreLiterals, IsLiteralOf, NameStandsFor, NamesListAt};
+ghost use Rattle.fzn_values.specs.Worth.{IsIntOf, IsListOf, IsListAt, AreInts, AreIntsOf, IsEntryOf, IsVariableOf, IsIntegerVariable, HasOneInteger, HasOneList};
 
 use crate::entry::Entry;
 use crate::link::links_of;
@@ -133,6 +134,27 @@ impl<'a> Values<'a> {
                 None => None,
                 Some(literal) => list_in(literal),
             },
+        }
+    }
+
+    fn list_named(&self, name: &[u8]) -> Option<usize>
+        ensures is { MatchOption result ((l : Expression) → NameStandsFor self.now literals.List name.now l → ⊥) (NamesListAt self.now name.now) }
+        ensures different { AreDifferent (names_of self.now) }
+    {
+        match self.scope.place(name) {
+            None => None,
+            Some(place) => self.end_of(Literal::List, place),
+        }
+    }
+
+    /// The place of the declaration whose value is the list that the expression's name stands for.
+    pub fn place_of_list(&self, expression: &Expression) -> Option<usize>
+        ensures is { MatchOption result ((k : ℕ) → IsListAt self.now expression.now k → ⊥) (IsListAt self.now expression.now) }
+        ensures only { IfSome result (λ _. (bs cs : List Basic) → IsListOf self.now expression.now bs → IsListOf self.now expression.now cs → cs ≡ bs) }
+    {
+        match named_by(expression) {
+            None => None,
+            Some(name) => self.list_named(name),
         }
     }
 

@@ -1,10 +1,4 @@
-use Rattle.fzn_posted.proofs.Firsts.{fine_more, all_fine, constraint_at}
 use Rattle.fzn_posted.proofs.fault.first_fault.Goals as goal
 
-pub loop-constraint-preserved : goal.loop-constraint-preserved
-loop-constraint-preserved c =
-    fine_more c.args.values.now c.args.constraints.now c.loop-constraint.constraint-index c.constraint-item.result
-    (constraint_at c.args.constraints.now c.loop-constraint.constraint-index c.constraint-item.result c.loop-constraint-test.true c.constraint-item.is) c.loop-constraint.invariant (rw c.in_default.is at c.in_ok-fault.ensures)
-
 pub returns : goal.returns
-returns c = all_fine c.args.values.now c.args.constraints.now c.loop-constraint.constraint-index c.loop-constraint-test.false c.loop-constraint.invariant
+returns c = rw c.in_ok-distinct.ensures at c.first_among.ensures

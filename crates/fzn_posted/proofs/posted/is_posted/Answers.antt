@@ -1,11 +1,4 @@
-use Rattle.fzn_table.specs.Rows.{entry_of}
-use Rattle.fzn_posted.proofs.Told.{unlisted, told_by_row}
 use Rattle.fzn_posted.proofs.posted.is_posted.Goals as goal
 
-pub returns-in-None : goal.returns-in-None
-returns-in-None c = unlisted c.args.values.now c.args.constraint.now c.as_bytes.result.now c.as_bytes.ensures c.in-None.ensures
-
-pub returns-in-Some : goal.returns-in-Some
-returns-in-Some c =
-    told_by_row c.args.values.now c.args.constraint.now c.as_bytes.result.now c.as_bytes.ensures (entry_of c.in-Some.row.now) c.as_slice.result.now c.fits_row.result c.as_slice.ensures c.one_row.ensures c.in-Some.ensures
-    c.fits_row.ensures
+pub returns : goal.returns
+returns c = rw c.in_ok-distinct.ensures at c.is_right.ensures
