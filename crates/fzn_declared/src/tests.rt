@@ -1,8 +1,6 @@
 //! Declarations and goals, right and wrong.
-use crate::{
-    ItemFault, declares_float_or_set, first_fault, has_float_or_set, is_float_or_set, is_right,
-    names_float_or_set, one_first, solve_fault,
-};
+use crate::{ItemFault, declares_float_or_set, first_fault, is_right, one_first, solve_fault};
+use fzn_floats::{has_float_or_set, is_float_or_set, names_float_or_set};
 use fzn_lex::lex;
 use fzn_occurrences::scope_of;
 use fzn_syntax::{Declaration, Items, parse};
