@@ -172,22 +172,63 @@ fn a_reason_names_the_ends_that_moved_and_the_implied_end(rt: HostRuntime) -> Re
 }
 
 #[test]
-fn comparisons_and_negations_are_sums(rt: HostRuntime) -> Result<(), Fail> {
+fn cells_that_never_moved_are_refuted_for_no_reason_but_the_sum(
+    rt: HostRuntime,
+) -> Result<(), Fail> {
     let args = [Arg::Var(X), Arg::Var(Y)];
-    let zeros = Assignment::zeros(rt.alloc(), 2)?;
-    let mut one = Assignment::zeros(rt.alloc(), 2)?;
-    one.set(X, 1);
-    for (name, coef, relation, bound, of_zero, of_one) in [
-        ("at most", -1, Relation::AtMost, 0, true, false),
-        ("less than", -1, Relation::AtMost, -1, false, false),
-        ("equal to", -1, Relation::Equal, 0, true, false),
-        ("other than", -1, Relation::Differ, 0, false, true),
-        ("the negation of", 1, Relation::Equal, 1, false, true),
-    ] {
-        let kind = Linear::new(rt.alloc(), &[1, coef], &args, relation, bound)?;
-        assert_eq!(rt; kind.holds(&zeros), of_zero, "0 is {name} 0");
-        assert_eq!(rt; kind.holds(&one), of_one, "1 is {name} 0");
+    let kind = Linear::new(rt.alloc(), &[2, 3], &args, Relation::AtMost, 1)?;
+    let starts = [Start::Span { lo: 1, hi: 9 }, Start::Span { lo: 0, hi: 1 }];
+    let cells = Cells::new(rt.alloc(), &starts)?;
+    let mut reason = Clause::new(rt.alloc());
+    if !kind.refutes(&cells) {
+        return Err("a sum of at least 2 is not given up".into());
     }
+    kind.reason(&cells, None, &mut reason)?;
+    assert!(rt; reason.literals().is_empty());
+    Ok(())
+}
+
+#[test]
+fn comparisons_are_sums(rt: HostRuntime) -> Result<(), Fail> {
+    let args = [Arg::Var(X), Arg::Var(Y)];
+    let mut a = Assignment::zeros(rt.alloc(), 2)?;
+    a.set(X, 1);
+    a.set(Y, 2);
+    for (name, relation, bound, met) in [
+        ("at most", Relation::AtMost, 0, true),
+        ("less", Relation::AtMost, -1, true),
+        ("equal", Relation::Equal, 0, false),
+        ("different", Relation::Differ, 0, true),
+    ] {
+        let kind = Linear::new(rt.alloc(), &[1, -1], &args, relation, bound)?;
+        assert_eq!(rt; kind.holds(&a), met, "1 is {name} 2");
+    }
+    a.set(X, 2);
+    for (name, relation, bound, met) in [
+        ("at most", Relation::AtMost, 0, true),
+        ("less", Relation::AtMost, -1, false),
+        ("equal", Relation::Equal, 0, true),
+        ("different", Relation::Differ, 0, false),
+    ] {
+        let kind = Linear::new(rt.alloc(), &[1, -1], &args, relation, bound)?;
+        assert_eq!(rt; kind.holds(&a), met, "2 is {name} 2");
+    }
+    Ok(())
+}
+
+#[test]
+fn negations_and_sums_are_equations(rt: HostRuntime) -> Result<(), Fail> {
+    let mut a = Assignment::zeros(rt.alloc(), 3)?;
+    a.set(Y, 1);
+    a.set(Z, 1);
+    let pair = [Arg::Var(X), Arg::Var(Y)];
+    let negated = Linear::new(rt.alloc(), &[1, 1], &pair, Relation::Equal, 1)?;
+    assert!(rt; negated.holds(&a), "1 is the negation of 0");
+    let same = Linear::new(rt.alloc(), &[1, -1], &pair, Relation::Equal, 0)?;
+    assert!(rt; !same.holds(&a), "0 is not the number of true");
+    let three = [Arg::Var(X), Arg::Var(Y), Arg::Var(Z)];
+    let sum = Linear::new(rt.alloc(), &[1, 1, -1], &three, Relation::Equal, 0)?;
+    assert!(rt; sum.holds(&a), "0 and 1 are 1");
     Ok(())
 }
 
