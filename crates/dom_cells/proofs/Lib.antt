@@ -1,3 +1,4 @@
+pub mod BitLaws
 pub mod BoxLaws
 pub mod CellLaws
 pub mod FlagLaws

@@ -1,3 +1,4 @@
+pub mod Bits
 pub mod Box
 pub mod Cell
 pub mod Flagged

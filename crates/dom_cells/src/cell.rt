@@ -1,7 +1,7 @@
 //! One variable's cell, and what a literal makes of it.
 ghost use Rattle.std.specs.Prelude.{◌≡◌, ◌≤◌, ◌<◌, length, ◌≤ℤ◌, ◌<ℤ◌, true, IfOk, pos, ◌^◌, ◌-◌};
 ghost use Rattle.dom_cells.specs.Cell.{IsSane, IsInOrder, Suits};
-ghost use Rattle.dom_cells.specs.Flagged.{is_kept, holds_in, IsSound, IsWhole, IsLastUp, IsFirstUp, IsFloor, IsCeiling, IsStep, IsPlace, AllHold, NoneHolds, SomeHolds, SomeFails};
+ghost use Rattle.dom_cells.specs.Flagged.{is_kept, holds_in, IsSound, IsWhole, IsFloor, IsCeiling, IsStep, IsPlace, AllHold, NoneHolds, SomeHolds, SomeFails};
 ghost use Rattle.std.specs.Bool.{MatchBool};
 
 use crate::Start;
@@ -255,7 +255,7 @@ fn floor_in(domain: &Domain, flags: &Flags, low: i64, value: i64) -> i64
     ensures { IsFloor (λ x. is_kept x domain.now flags.now) value result }
 {
     let below = domain.rank(value + 1);
-    domain.value_at(last_up(flags, below) - 1)
+    domain.value_at(flags.last_up(below) - 1)
 }
 
 /// The least value whose flag is up and that is at least `value`. `high` is such a value.
@@ -266,29 +266,5 @@ fn ceiling_in(domain: &Domain, flags: &Flags, high: i64, value: i64) -> i64
     ensures { IsCeiling (λ x. is_kept x domain.now flags.now) value result }
 {
     let from = domain.rank(value);
-    domain.value_at(first_up(flags, from))
-}
-
-/// The place after the last flag that is up before `below`, or 0.
-fn last_up(flags: &Flags, below: usize) -> usize
-    requires { below ≤ length flags.now }
-    ensures { IsLastUp flags.now below result }
-{
-    let mut after = below;
-    while after > 0 && !flags.is_up(after - 1) {
-        after -= 1;
-    }
-    after
-}
-
-/// The first place from `from` on whose flag is up, or the end.
-fn first_up(flags: &Flags, from: usize) -> usize
-    requires { from ≤ length flags.now }
-    ensures { IsFirstUp flags.now from result }
-{
-    let mut at = from;
-    while at < flags.len() && !flags.is_up(at) {
-        at += 1;
-    }
-    at
+    domain.value_at(flags.first_up(from))
 }

@@ -1,6 +1,7 @@
 //! Boxes: what every variable of a model has left, cut by literals and given back.
 #![tactic(auto)]
 
+mod bits;
 mod cell;
 mod cells;
 mod flags;

@@ -1,4 +1,6 @@
-ghost use Rattle.std.specs.Prelude.{◌≡◌, IfOk, length};
+ghost use Rattle.std.specs.Prelude.{◌≡◌, ◌<◌, IfOk, OnOk, length};
+ghost use Rattle.dom_cells.specs.Box.{start_at};
+ghost use Rattle.dom_cells.specs.Cell.{Suits};
 
 use super::*;
 use dom_core::{Assignment, Domain, Interval, Intervals, Literal, Rel, VarId};
@@ -61,6 +63,42 @@ fn the_next_values_of_a_cell_pass_over_its_gaps(rt: HostRuntime) -> Result<(), F
     let cells = Cells::new(rt.alloc(), &[Start::Values(domain)])?;
     if cells.lo(X) < 5 && 5 < cells.hi(X) {
         assert_eq!(rt; (cells.floor(X, 5), cells.ceiling(X, 5)), (4, 7));
+        return Ok(());
+    }
+    Err("no values on both sides".into())
+}
+
+/// Takes the values from `low` up to `high` out of the cell.
+fn take_out(cells: &mut Cells, low: i64, high: i64) -> Result<(), Fail>
+    requires var { 0 < length cells.old.starts }
+    requires suits { Suits (start_at cells.old.starts 0) Rel.Ne }
+    ensures { OnOk result (cells.new.starts ≡ cells.old.starts) }
+{
+    for value in low..high {
+        cells.reserve(1)?;
+        cells.narrow(Literal {
+            var: X,
+            rel: Rel::Ne,
+            value,
+        });
+    }
+    Ok(())
+}
+
+#[test]
+fn the_next_values_of_a_cell_are_found_past_many_that_are_gone(
+    rt: HostRuntime,
+) -> Result<(), Fail> {
+    let domain = Domain::from_range(0, 299).ok().ok_or("no domain")?;
+    let mut cells = Cells::new(rt.alloc(), &[Start::Values(domain)])?;
+    let mark = cells.mark();
+    take_out(&mut cells, 1, 290)?;
+    assert_eq!(rt; (cells.has(X, 0), cells.has(X, 1)), (true, false));
+    assert_eq!(rt; (cells.has(X, 289), cells.has(X, 290)), (false, true));
+    if cells.lo(X) < 1 && 289 < cells.hi(X) {
+        assert_eq!(rt; (cells.floor(X, 289), cells.ceiling(X, 1)), (0, 290));
+        cells.undo(mark);
+        assert_eq!(rt; (cells.has(X, 1), cells.has(X, 289)), (true, true));
         return Ok(());
     }
     Err("no values on both sides".into())
