@@ -1,6 +1,6 @@
 #!/usr/bin/env bash
-# Times the built program: on the model at the limit, and on texts at the limit, which are shown, refused for
-# their many variables, and refused for one byte too many.
+# Times the built programs: on the model at the limit, on texts at the limit, which are shown, refused for their
+# many variables, and refused for one byte too many; and a sum of 1,000 terms, round after round.
 set -eu
 cd "$(dirname "$0")/.."
 program=crates/dombreak/out/dombreak
@@ -26,3 +26,9 @@ echo "16,777,216 bytes with 100,000 variables, which are not built"
 timed show "$scratch/many.fzn"
 echo "16,777,217 bytes, which are too long"
 timed show "$scratch/long.fzn"
+echo "100 rounds of a sum of 1,000 terms"
+sum=crates/bench_linear/out/bench_linear
+for turn in 1 2 3; do
+  /usr/bin/time -q -f "  turn $turn: %e s, %M kB" "$sum" 2>&1 >"$scratch/counts"
+  cmp "$scratch/counts" crates/bench_linear/stdout
+done

@@ -1,0 +1,25 @@
+use Rattle.std.proofs.Common.{subst, Some}
+use Rattle.dom_cells.specs.Box.{cell_of}
+use Rattle.kind_law.specs.Next.{IsNext}
+use Rattle.kind_law.proofs.ReasonLaws.{next_cause}
+use Rattle.kind_linear.specs.Linear.{form_vars, form_refuted}
+use Rattle.bench_linear.proofs.DigitLaws.{digits_fit, digits_below}
+use Rattle.bench_linear.proofs.round.ask.Goals as goal
+
+pub next-implied-requires-clause-fits : goal.next-implied-requires-clause-fits
+next-implied-requires-clause-fits c =
+    digits_fit 1000 c.args.sum.now c.args.cells.now c.requires.sum c.requires.starts c.width-width.ensures.sound
+
+pub reason-requires-clause-cause : goal.reason-requires-clause-cause
+reason-requires-clause-cause c =
+    let next : IsNext (form_refuted c.args.sum.now) (form_vars c.args.sum.now) (cell_of c.args.cells.now) (Some c.in-Some.literal) =
+    subst (IsNext (form_refuted c.args.sum.now) (form_vars c.args.sum.now) (cell_of c.args.cells.now)) c.in-Some.is c.next-implied.ensures in
+    (next_cause (form_refuted c.args.sum.now) (form_vars c.args.sum.now) c.args.cells.now c.in-Some.literal
+    c.width-width.ensures.sound (digits_below 1000 c.args.sum.now c.args.cells.now.starts c.requires.sum c.requires.starts) next).1
+
+pub reason-requires-clause-var : goal.reason-requires-clause-var
+reason-requires-clause-var c =
+    let next : IsNext (form_refuted c.args.sum.now) (form_vars c.args.sum.now) (cell_of c.args.cells.now) (Some c.in-Some.literal) =
+    subst (IsNext (form_refuted c.args.sum.now) (form_vars c.args.sum.now) (cell_of c.args.cells.now)) c.in-Some.is c.next-implied.ensures in
+    (next_cause (form_refuted c.args.sum.now) (form_vars c.args.sum.now) c.args.cells.now c.in-Some.literal
+    c.width-width.ensures.sound (digits_below 1000 c.args.sum.now c.args.cells.now.starts c.requires.sum c.requires.starts) next).0

@@ -1,0 +1,33 @@
+-- Sums of variables whose values are digits.
+use Rattle.std.specs.Prelude.{◌≡◌, ◌++◌, List, length, ℕ, pos}
+use Rattle.std.specs.List.{All}
+use Rattle.dom_core.specs.Ends.{Ends}
+use Rattle.dom_core.specs.Rises.{range_of}
+use Rattle.dom_core.specs.declared.literal.Literal.{Literal}
+use Rattle.dom_cells.specs.declared.start.Start.{Start}
+use Rattle.dom_cells.specs.declared.start.Start.TheVariants.{Values}
+use Rattle.kind_law.specs.Laws.{AllBelow}
+use Rattle.kind_linear.specs.Linear.{Form, form_vars, FormFits}
+
+-- from the first digit to the last
+abbrev pub digit_ends : Ends
+digit_ends = record { lo = pos 0; hi = pos 9 }
+
+-- all digits
+abbrev pub IsDigits : Start → Type 0
+IsDigits s = s ≡ Values (range_of (pos 0) (pos 9))
+
+-- so many variables, each with all digits
+pub record AreDigits (n : ℕ) (starts : List Start) : Type 0 where
+  pub width : length starts ≡ n
+  pub each : All IsDigits starts
+
+-- a sum of so many variables, which stays small over digits
+pub record IsDigitSum (n : ℕ) (k : Form) : Type 0 where
+  pub below : AllBelow n (form_vars k)
+  pub fits : FormFits k (λ v. digit_ends)
+
+-- the list has the other one at its start
+pub record Extends (old new : List Literal) : Type 0 where
+  pub more : List Literal
+  pub is : new ≡ old ++ more
