@@ -1,6 +1,7 @@
 //! Linear relations: sums of variables with coefficients, compared with a number.
 #![tactic(auto)]
 
+mod explained;
 mod linear;
 mod output;
 mod reified;
