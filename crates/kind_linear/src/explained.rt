@@ -1,9 +1,10 @@
 //! Reasons of sums: the ends of cells that the sum needs, but for those that its slack makes up for.
-ghost use Rattle.std.specs.Prelude.{◌≡◌, ◌<◌, ◌*◌, ◌-ℤ◌, [], length, pos, true, false, OnOk, IfOk, unsigned_abs};
+ghost use Rattle.std.specs.Prelude.{◌≡◌, ◌<◌, ◌*◌, ◌+ℤ◌, ◌-ℤ◌, ◌<ℤ◌, FitsSigned, [], length, pos, true, false, OnOk, IfOk, unsigned_abs};
+ghost use Rattle.std.specs.Int.{w128};
 ghost use Rattle.dom_core.specs.declared.arg.Arg.TheVariants.{Var};
 ghost use Rattle.dom_cells.specs.Box.{cell_of};
-ghost use Rattle.kind_law.specs.Laws.{AllBelow, hulls};
-ghost use Rattle.kind_law.specs.Reason.{AddsFine, IsCause, IsOpen, IsRead, IsReason, asked};
+ghost use Rattle.kind_law.specs.Laws.{AllBelow, AllSane, hulls};
+ghost use Rattle.kind_law.specs.Reason.{AddsFine, IsCause, IsOpen, IsOpenEnd, IsRead, IsReason, asked};
 ghost use Rattle.kind_linear.specs.Explained.{IsExcess, Pays, PaysAll, edge_side};
 ghost use Rattle.kind_linear.specs.Linear.{FormFits, form_refuted, form_vars};
 ghost use Rattle.kind_linear.specs.Output.{HasBits, is_difference};
@@ -13,7 +14,7 @@ ghost use Rattle.kind_linear.specs.Sum.{ArgHas, arg_ends, total, vars_of};
 use crate::linear::Linear;
 use crate::relation::Relation;
 use crate::term::{Reading, Term};
-use dom_cells::{Cells, Hulls, Kept};
+use dom_cells::{Cells, Hulls, Kept, Region};
 use dom_core::{Arg, Clause, Interval, Literal, VarId};
 use kind_law::{Side, add_implied, explain_end, failing, reach};
 use std::alloc::AllocError;
@@ -58,15 +59,42 @@ pub(crate) fn asked_total(linear: &Linear, cells: &Cells, implied: Option<Litera
     ensures total { result ≡ total linear.now.terms (arg_ends (hulls (asked cells.now implied))) }
     ensures bits { HasBits 101 result }
 {
-    let _width = cells.width();
     match implied {
-        None => linear.total(Reading::Values, &Hulls(cells)),
-        Some(literal) => {
-            let literal = failing(cells, literal);
-            let kept = Kept { cells, literal };
-            linear.total(Reading::Values, &Hulls(&kept))
+        None => {
+            let _width = cells.width();
+            total_in(linear, cells)
         }
+        Some(literal) => failing_total(linear, cells, literal),
     }
+}
+
+/// The sum over the part of the box in which the literal fails.
+fn failing_total(linear: &Linear, cells: &Cells, literal: Literal) -> Interval
+    requires below { AllBelow (length cells.now.starts) (form_vars linear.now) }
+    requires fits { FormFits linear.now (hulls (cell_of cells.now)) }
+    requires open { IsOpenEnd (cell_of cells.now) literal }
+    requires var { literal.var.0 < length cells.now.starts }
+    ensures total { result ≡ total linear.now.terms (arg_ends (hulls (asked cells.now (Some literal)))) }
+    ensures bits { HasBits 101 result }
+{
+    let _width = cells.width();
+    let failing = failing(cells, literal);
+    let kept = Kept {
+        cells,
+        literal: failing,
+    };
+    total_in(linear, &kept)
+}
+
+/// The sum over a box.
+fn total_in<R: Region>(linear: &Linear, region: &R) -> Interval
+    requires below { AllBelow (R.width region.now) (form_vars linear.now) }
+    requires sane { AllSane (R.cells region.now) (form_vars linear.now) }
+    requires fits { FormFits linear.now (hulls (R.cells region.now)) }
+    ensures total { result ≡ total linear.now.terms (arg_ends (hulls (R.cells region.now))) }
+    ensures bits { HasBits 101 result }
+{
+    linear.total(Reading::Values, &Hulls(region))
 }
 
 /// By how much a refuted sum misses the relation, and on which side.
@@ -78,17 +106,24 @@ fn excess_of(relation: Relation, total: Interval, bound: i64) -> Excess
 {
     let bound = bound as i128;
     if bound < total.lo() {
-        let slack = total.lo() - bound - 1;
         return Excess {
             turned: false,
-            slack: slack as u128,
+            slack: beyond(bound, total.lo()),
         };
     }
-    let slack = bound - total.hi() - 1;
     Excess {
         turned: true,
-        slack: slack as u128,
+        slack: beyond(total.hi(), bound),
     }
+}
+
+/// By how much more than 1 the second number is greater than the first.
+fn beyond(low: i128, high: i128) -> u128
+    requires order { low <ℤ high }
+    requires fits { FitsSigned w128 (high -ℤ low) }
+    ensures { ((low +ℤ pos result) +ℤ pos 1) ≡ high }
+{
+    (high - low - 1) as u128
 }
 
 /// Tells of the terms' variables what the sum needs, as long as the slack doesn't make up for it.
