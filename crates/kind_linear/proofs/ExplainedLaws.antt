@@ -22,7 +22,7 @@ use Rattle.kind_law.specs.declared.side.Side.{Side}
 use Rattle.kind_law.specs.declared.side.Side.TheVariants.{Low, High}
 use Rattle.kind_law.proofs.EachLaws.{each_map}
 use Rattle.kind_law.proofs.EndLaws.{IsAgainst, against_is, cause_open, cause_refutes, end_reason, left_fewer}
-use Rattle.kind_linear.specs.Explained.{edge, edge_side, AreLeft, Pays, PaysAll, IsExcess}
+use Rattle.kind_linear.specs.Explained.{edge, edge_side, AreLeft, EdgeNear, Pays, PaysAll, IsExcess}
 use Rattle.kind_linear.specs.Linear.{Form, form_vars, form_refuted}
 use Rattle.kind_linear.specs.Relation.{refuted_by}
 use Rattle.kind_linear.specs.Output.{is_difference}
@@ -113,11 +113,6 @@ side_up : (turned : Bool) (c : ℤ) → int_lt c (pos 0) ≡ false → edge_side
 side_up true c h = ap (λ (b : Bool). if b then Low else High) h
 side_up false c h = ap (λ (b : Bool). if b then High else Low) h
 
--- on this side the second interval reaches at most so far beyond the first
-abbrev pub EdgeNear : Side → Ends → Ends → ℤ → Type 0
-EdgeNear Low a e gap = (a.lo -ℤ gap) ≤ℤ e.lo
-EdgeNear High a e gap = e.hi ≤ℤ (a.hi +ℤ gap)
-
 pays_up : (turned : Bool) (c : ℤ) (g : ℕ) (a e : Ends) → int_lt c (pos 0) ≡ false
     → EdgeNear (low_if (not turned)) a e (pos g)
     → (edge turned (scaled_ends c a) -ℤ pos (unsigned_abs c * g)) ≤ℤ edge turned (scaled_ends c e)
@@ -156,7 +151,7 @@ pays_down false c g a e sign near =
 
 -- ---- one term
 
-left_near : (side : Side) (m : Trailed) (implied : Option Literal) (ls : List Literal) (v : ℕ) (gap : ℤ) (e : Ends)
+pub left_near : (side : Side) (m : Trailed) (implied : Option Literal) (ls : List Literal) (v : ℕ) (gap : ℤ) (e : Ends)
     → ((x : ℤ) → IsLeft m implied ls v x → IsNear side m implied v gap x) → AreLeft m implied ls v e → EdgeNear side (hulls (asked m implied) v) e gap
 left_near Low m implied ls v gap e near left = near e.lo left.low
 left_near High m implied ls v gap e near left = near e.hi left.high
@@ -269,7 +264,7 @@ front_last turned m implied ls ts i slack left h front s values =
 
 -- ---- the whole reason
 
-against_ends : (m : Trailed) (implied : Option Literal) (front : List Literal) (c : Start) (v : ℕ) → IsAgainst m implied front c v → AreLeft m implied front v (ends_of c)
+pub against_ends : (m : Trailed) (implied : Option Literal) (front : List Literal) (c : Start) (v : ℕ) → IsAgainst m implied front c v → AreLeft m implied front v (ends_of c)
 against_ends m implied front c v a =
     let k : IsCell c = sane-cell c a.sane in
     record { low = a.left (lo_of c) k.least; high = a.left (hi_of c) k.greatest }

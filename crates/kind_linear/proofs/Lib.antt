@@ -1,3 +1,4 @@
+pub mod ArguedLaws
 pub mod ExplainedLaws
 pub mod RunLaws
 pub mod SeenLaws

@@ -98,7 +98,7 @@ fn total_in<R: Region>(linear: &Linear, region: &R) -> Interval
 }
 
 /// By how much a refuted sum misses the relation, and on which side.
-fn excess_of(relation: Relation, total: Interval, bound: i64) -> Excess
+pub(crate) fn excess_of(relation: Relation, total: Interval, bound: i64) -> Excess
     requires refuted { refuted_by relation total bound ≡ true }
     requires bits { HasBits 101 total }
     requires relation { is_difference relation ≡ false }
@@ -118,7 +118,7 @@ fn excess_of(relation: Relation, total: Interval, bound: i64) -> Excess
 }
 
 /// By how much more than 1 the second number is greater than the first.
-fn beyond(low: i128, high: i128) -> u128
+pub(crate) fn beyond(low: i128, high: i128) -> u128
     requires order { low <ℤ high }
     requires fits { FitsSigned w128 (high -ℤ low) }
     ensures { ((low +ℤ pos result) +ℤ pos 1) ≡ high }

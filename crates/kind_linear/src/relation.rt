@@ -40,7 +40,7 @@ pub(crate) fn is_refuted(relation: Relation, total: Interval, bound: i64) -> boo
 }
 
 /// Whether each sum between the ends stands in the relation.
-fn is_certain(relation: Relation, total: Interval, bound: i64) -> bool
+pub(crate) fn is_certain(relation: Relation, total: Interval, bound: i64) -> bool
     ensures certain { result ≡ certain_by relation total bound }
     ensures ordered { IsOrdered total }
 {
