@@ -45,14 +45,14 @@ adds-more m a b c f g = record {
   fine = fine-append m f.added g.added f.fine g.fine;
 }
 
-survives-append : (v : ℕ) (xs ys : List Literal) (x : ℤ) → survives v (xs ++ ys) x ≡ true → survives v xs x ≡ true
+pub survives-append : (v : ℕ) (xs ys : List Literal) (x : ℤ) → survives v (xs ++ ys) x ≡ true → survives v xs x ≡ true
 survives-append v [] ys x h = refl
 survives-append v (l ∷ ls) ys x h =
     and_both (if v == l.var.0 then not (holds_at l x) else true) (survives v ls x)
     (and_first (if v == l.var.0 then not (holds_at l x) else true) (survives v (ls ++ ys) x) h)
     (survives-append v ls ys x (and_second (if v == l.var.0 then not (holds_at l x) else true) (survives v (ls ++ ys) x) h))
 
-survives-last : (v : ℕ) (xs : List Literal) (l : Literal) (x : ℤ) → survives v (xs ++ l ∷ []) x ≡ true → l.var.0 ≡ v → holds_at l x ≡ false
+pub survives-last : (v : ℕ) (xs : List Literal) (l : Literal) (x : ℤ) → survives v (xs ++ l ∷ []) x ≡ true → l.var.0 ≡ v → holds_at l x ≡ false
 survives-last v [] l x h e =
     not_true (holds_at l x) (ap (λ (b : Bool). if b then not (holds_at l x) else true) (sym ((Decides-eqb v l.var.0).1 (sym e)))
     ∙ and_first (if v == l.var.0 then not (holds_at l x) else true) true h)
@@ -171,15 +171,15 @@ abbrev pub AllSuited : Trailed → List Literal → Type 0
 AllSuited m [] = Unit {0}
 AllSuited m (l ∷ ls) = Suits (start_at m.starts l.var.0) l.rel × AllSuited m ls
 
-fine-suited : (m : Trailed) (ls : List Literal) → AllFine m ls → AllSuited m ls
+pub fine-suited : (m : Trailed) (ls : List Literal) → AllFine m ls → AllSuited m ls
 fine-suited m [] h = tt
 fine-suited m (l ∷ ls) h = (h.0.suit, fine-suited m ls h.1)
 
-suited-append : (m : Trailed) (xs ys : List Literal) → AllSuited m xs → AllSuited m ys → AllSuited m (xs ++ ys)
+pub suited-append : (m : Trailed) (xs ys : List Literal) → AllSuited m xs → AllSuited m ys → AllSuited m (xs ++ ys)
 suited-append m [] ys h g = g
 suited-append m (x ∷ xs) ys h g = (h.0, suited-append m xs ys h.1 g)
 
-negations-suit : (m : Trailed) (v : ℕ) (ls : List Literal) → AllSuited m ls → AllSuit v (start_at m.starts v) (map negation ls)
+pub negations-suit : (m : Trailed) (v : ℕ) (ls : List Literal) → AllSuited m ls → AllSuit v (start_at m.starts v) (map negation ls)
 negations-suit m v [] h = tt
 negations-suit m v (l ∷ ls) h =
     ((λ e. subst (λ (w : ℕ). Suits (start_at m.starts w) (opposite l.rel)) (sym e) (suits-negation (start_at m.starts l.var.0) l h.0)), negations-suit m v ls h.1)
@@ -191,7 +191,7 @@ survives-is v (l ∷ ls) x =
     ∙ ap (λ (b : Bool). (if v == l.var.0 then not (holds_at l x) else true) && b) (survives-is v ls x)
 
 -- a value against the reason is one of the start that survives
-against_has : (m : Trailed) (ls : List Literal) (v : ℕ) (x : ℤ) → AllSuited m ls → has_of (against m ls v) x ≡ (has_of (start_at m.starts v) x && survives v ls x)
+pub against_has : (m : Trailed) (ls : List Literal) (v : ℕ) (x : ℤ) → AllSuited m ls → has_of (against m ls v) x ≡ (has_of (start_at m.starts v) x && survives v ls x)
 against_has m ls v x h =
     has-cut_all v (start_at m.starts v) (map negation ls) x (negations-suit m v ls h) ∙ ap (λ (b : Bool). has_of (start_at m.starts v) x && b) (survives-is v ls x)
 
@@ -201,7 +201,7 @@ from_start m v x s lt h =
     and_first (has_of (start_at m.starts v) x) (holds_all v m.literals x) (sym (has-cut_all v (start_at m.starts v) m.literals x (s.suit v lt)) ∙ h)
 
 -- values left survive literals that fail there
-fine_survives : (m : Trailed) (v : ℕ) (ls : List Literal) (x : ℤ) → AllFine m ls → has_of (cell_of m v) x ≡ true → survives v ls x ≡ true
+pub fine_survives : (m : Trailed) (v : ℕ) (ls : List Literal) (x : ℤ) → AllFine m ls → has_of (cell_of m v) x ≡ true → survives v ls x ≡ true
 fine_survives m v [] x f h = refl
 fine_survives m v (l ∷ ls) x f h =
     and_both (if v == l.var.0 then not (holds_at l x) else true) (survives v ls x)
@@ -212,7 +212,7 @@ fine_survives m v (l ∷ ls) x f h =
     ])
     (fine_survives m v ls x f.1 h)
 
-survives-push : (v : ℕ) (ls : List Literal) (l : Literal) (x : ℤ) → survives v ls x ≡ true → (l.var.0 ≡ v → holds_at l x ≡ false) → survives v (ls ++ l ∷ []) x ≡ true
+pub survives-push : (v : ℕ) (ls : List Literal) (l : Literal) (x : ℤ) → survives v ls x ≡ true → (l.var.0 ≡ v → holds_at l x ≡ false) → survives v (ls ++ l ∷ []) x ≡ true
 survives-push v [] l x h gone =
     and_both (if v == l.var.0 then not (holds_at l x) else true) true
     (elim (same_or_other v l.var.0) [
@@ -275,7 +275,7 @@ refuted_reason inside vars refuted m front law s below r fine covers =
 
 -- ---- an implied end
 
-end_negation : (r : Rel) → is_end r ≡ true → is_end (opposite r) ≡ true
+pub end_negation : (r : Rel) → is_end r ≡ true → is_end (opposite r) ≡ true
 end_negation Le e = refl
 end_negation Ge e = refl
 end_negation Eq e = e
@@ -369,7 +369,7 @@ listed_at s xs k x e read =
       suit = λ r. tt;
     })
 
-among_place : (x : ℤ) (xs : List ℤ) → is_among x xs ≡ true → (k : ℕ) × (k < length xs) × (get_or xs k (pos 0) ≡ x)
+pub among_place : (x : ℤ) (xs : List ℤ) → is_among x xs ≡ true → (k : ℕ) × (k < length xs) × (get_or xs k (pos 0) ≡ x)
 among_place x [] h = absurd (cc)
 among_place x (y ∷ ys) h =
     elim (among_cases x y ys h) [

@@ -1,5 +1,5 @@
 -- Reasons: clauses that say why a kind gave up a box or implied an end.
-use Rattle.std.specs.Prelude.{◌≡◌, ◌<◌, ◌==◌, ◌&&◌, ◌||◌, Bool, true, false, not, if◌then◌else◌, List, [], ◌∷◌, ◌++◌, ℕ, ℤ, ◌≤ℤ◌, Option, Some, None, MatchOption}
+use Rattle.std.specs.Prelude.{◌≡◌, ◌<◌, ◌==◌, ◌&&◌, ◌||◌, Bool, true, false, not, if◌then◌else◌, List, [], ◌∷◌, ◌++◌, ℕ, ℤ, pos, ◌+ℤ◌, ◌-ℤ◌, ◌≤ℤ◌, ◌<ℤ◌, Option, Some, None, MatchOption, ◌≤◌, slice_index_or}
 use Rattle.std.specs.Option.{option_to_list}
 use Rattle.dom_cells.specs.Box.{Trailed, start_at, cell_of, against, kept}
 use Rattle.dom_cells.specs.Cell.{has_of, lo_of, hi_of, Suits, IsFalse, IsPossible}
@@ -7,6 +7,8 @@ use Rattle.dom_core.specs.Literal.{holds_at, is_end, negation}
 use Rattle.dom_core.specs.declared.literal.Literal.{Literal}
 use Rattle.dom_core.specs.declared.literal.Rel.{Rel}
 use Rattle.dom_cells.specs.declared.start.Start.{Start}
+use Rattle.kind_law.specs.declared.side.Side.{Side}
+use Rattle.kind_law.specs.declared.side.Side.TheVariants.{Low, High}
 
 -- the literal bounds a cell by one end, may still fail there and may still hold, and the box in which it fails is refuted
 pub record IsImplied (refuted : (ℕ → Start) → Bool) (b : ℕ → Start) (l : Literal) : Type 0 where
@@ -89,3 +91,69 @@ pub record CoversVar (m : Trailed) (ls : List Literal) (deep : Bool) (v : ℕ) :
 pub record IsListedAt (s : Start) (x : ℤ) : Type 0 where
   pub has : has_of s x ≡ true
   pub suit : (r : Rel) → Suits s r
+
+-- ---- reasons by one end of each cell
+
+-- the literal bounds its variable's cell by one end, may still hold there and may still fail
+pub record IsOpenEnd (b : ℕ → Start) (l : Literal) : Type 0 where
+  pub end_is : is_end l.rel ≡ true
+  pub possible : IsPossible (b l.var.0) l
+  pub open_still : IsPossible (b l.var.0) (negation l)
+
+-- where an end is implied, it is open
+abbrev pub IsOpen : (ℕ → Start) → Option Literal → Type 0
+IsOpen b implied = MatchOption implied (Unit {0}) (IsOpenEnd b)
+
+-- the box that is refuted: the cells, or those of them in which the implied end fails
+abbrev pub asked : Trailed → Option Literal → ℕ → Start
+asked m None v = cell_of m v
+asked m (Some l) v = kept (cell_of m) (negation l) v
+
+-- a value of the start that meets neither a literal of the list nor the implied one
+pub record IsLeft (m : Trailed) (implied : Option Literal) (ls : List Literal) (v : ℕ) (x : ℤ) : Type 0 where
+  pub first : has_of (start_at m.starts v) x ≡ true
+  pub lives : survives v ls x ≡ true
+  pub fails : survives v (option_to_list implied) x ≡ true
+
+-- the value lies at most so far beyond this end of the refuted box
+abbrev pub IsNear : Side → Trailed → Option Literal → ℕ → ℤ → ℤ → Type 0
+IsNear Low m implied v gap x = (lo_of (asked m implied v) -ℤ gap) ≤ℤ x
+IsNear High m implied v gap x = x ≤ℤ (hi_of (asked m implied v) +ℤ gap)
+
+-- values that are left lie within this end of the refuted box
+abbrev pub CoversEnd : Side → Trailed → Option Literal → List Literal → ℕ → Type 0
+CoversEnd side m implied ls v = (x : ℤ) → IsLeft m implied ls v x → IsNear side m implied v (pos 0) x
+
+-- values that are left lie at most so far beyond this end of the refuted box, whatever is told
+abbrev pub IsReach : Side → Trailed → Option Literal → ℕ → ℤ → Type 0
+IsReach side m implied v gap = (ls : List Literal) (x : ℤ) → IsLeft m implied ls v x → IsNear side m implied v gap x
+
+-- each of a domain's values from the one number up to the other that survives is left
+abbrev pub CoversBetween : Trailed → List Literal → ℕ → ℤ → ℤ → Type 0
+CoversBetween m ls v begin end = (x : ℤ) → has_of (start_at m.starts v) x ≡ true → begin ≤ℤ x → x <ℤ end → CoversValue m ls v x
+
+-- each of the list's values from the one place up to the other that survives is left
+abbrev pub CoversRanks : Trailed → List Literal → ℕ → List ℤ → ℕ → ℕ → Type 0
+CoversRanks m ls v xs first last = (k : ℕ) → first ≤ k → k < last → CoversValue m ls v (slice_index_or xs k (pos 0))
+
+-- the failing of the implied end leaves no value below this one, which lies within the cell
+pub record IsLowBound (m : Trailed) (implied : Option Literal) (v : ℕ) (bound : ℤ) : Type 0 where
+  pub low : lo_of (cell_of m v) <ℤ bound
+  pub high : bound ≤ℤ hi_of (cell_of m v)
+  pub left : (ls : List Literal) (x : ℤ) → IsLeft m implied ls v x → bound ≤ℤ x
+  pub reached : (x : ℤ) → has_of (cell_of m v) x ≡ true → bound ≤ℤ x → lo_of (asked m implied v) ≤ℤ x
+
+-- the failing of the implied end leaves no value above this one, which lies within the cell
+pub record IsHighBound (m : Trailed) (implied : Option Literal) (v : ℕ) (bound : ℤ) : Type 0 where
+  pub low : lo_of (cell_of m v) ≤ℤ bound
+  pub high : bound <ℤ hi_of (cell_of m v)
+  pub left : (ls : List Literal) (x : ℤ) → IsLeft m implied ls v x → x ≤ℤ bound
+  pub reached : (x : ℤ) → has_of (cell_of m v) x ≡ true → x ≤ℤ bound → x ≤ℤ hi_of (asked m implied v)
+
+-- the lower bound that the failing of the implied end puts on the cell; without one the lower end stays
+abbrev pub IsOwnLow : Trailed → Option Literal → ℕ → Option ℤ → Type 0
+IsOwnLow m implied v r = MatchOption r (lo_of (asked m implied v) ≤ℤ lo_of (cell_of m v)) (IsLowBound m implied v)
+
+-- the upper bound that the failing of the implied end puts on the cell; without one the upper end stays
+abbrev pub IsOwnHigh : Trailed → Option Literal → ℕ → Option ℤ → Type 0
+IsOwnHigh m implied v r = MatchOption r (hi_of (cell_of m v) ≤ℤ hi_of (asked m implied v)) (IsHighBound m implied v)

@@ -3,6 +3,7 @@
 
 mod change;
 mod define;
+mod ends;
 mod function;
 mod kind;
 mod next;
@@ -13,9 +14,11 @@ mod side;
 
 pub use change::{are_still, change_by};
 pub use define::Define;
+pub use ends::{explain_end, failing, reach};
 pub use function::{are_apart, is_function_kept};
 pub use kind::Kind;
 pub use next::{first_end, next_of};
 pub use probe::Probe;
 pub use propagate::Propagate;
-pub use reason::reason_of;
+pub use reason::{add_implied, reason_of};
+pub use side::Side;

@@ -29,6 +29,7 @@ pub trait Propagate: Kind {
         out: &mut Clause,
     ) -> Result<(), AllocError>
         requires below { AllBelow (length cells.now.starts) (Self.vars self.now) }
+        requires fits { Self.fits self.now (hulls (cell_of cells.now)) }
         requires cause { IsCause (Self.refuted self.now) (cell_of cells.now) implied }
         requires var { IsRead (length cells.now.starts) implied }
         ensures reason { OnOk result (IsReason (Self.refuted self.now) cells.now implied out.new) }

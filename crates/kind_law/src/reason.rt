@@ -51,8 +51,8 @@ fn write_reason<K: Kind>(
     Ok(())
 }
 
-/// Adds the implied literal, where there is one.
-fn add_implied(implied: Option<Literal>, out: &mut Clause) -> Result<(), AllocError>
+/// Adds the implied literal, where there is one. It stands last in a reason.
+pub fn add_implied(implied: Option<Literal>, out: &mut Clause) -> Result<(), AllocError>
     ensures { OnOk result (out.new ≡ out.old ++ option_to_list implied) }
 {
     match implied {
@@ -111,7 +111,7 @@ fn explain(cells: &Cells, var: VarId, deep: bool, out: &mut Clause) -> Result<()
 }
 
 /// Tells that the values below the least one left are gone.
-fn explain_low(cells: &Cells, var: VarId, out: &mut Clause) -> Result<(), AllocError>
+pub(crate) fn explain_low(cells: &Cells, var: VarId, out: &mut Clause) -> Result<(), AllocError>
     requires { var.0 < length cells.now.starts }
     ensures fine { OnOk result (AddsFine cells.now out.old out.new) }
     ensures covers { OnOk result (CoversLow cells.now out.new var.0) }
@@ -130,7 +130,7 @@ fn explain_low(cells: &Cells, var: VarId, out: &mut Clause) -> Result<(), AllocE
 }
 
 /// Tells that the values above the greatest one left are gone.
-fn explain_high(cells: &Cells, var: VarId, out: &mut Clause) -> Result<(), AllocError>
+pub(crate) fn explain_high(cells: &Cells, var: VarId, out: &mut Clause) -> Result<(), AllocError>
     requires { var.0 < length cells.now.starts }
     ensures fine { OnOk result (AddsFine cells.now out.old out.new) }
     ensures covers { OnOk result (CoversHigh cells.now out.new var.0) }
@@ -183,7 +183,7 @@ fn explain_values(
 }
 
 /// Tells that the value is gone, where it lies between the ends and is.
-fn explain_value(cells: &Cells, var: VarId, value: i64, out: &mut Clause) -> Result<(), AllocError>
+pub(crate) fn explain_value(cells: &Cells, var: VarId, value: i64, out: &mut Clause) -> Result<(), AllocError>
     requires var { var.0 < length cells.now.starts }
     requires start { IsListedAt (start_at cells.now.starts var.0) value }
     ensures fine { OnOk result (AddsFine cells.now out.old out.new) }

@@ -2,7 +2,7 @@
 
 /// The side of a cell's least value, or that of its greatest.
 #[derive(Clone, Copy, Debug, PartialEq, Eq)]
-pub(crate) enum Side {
+pub enum Side {
     Low,
     High,
 }

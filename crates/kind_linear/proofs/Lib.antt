@@ -1,3 +1,5 @@
+pub mod ArguedLaws
+pub mod ExplainedLaws
 pub mod RunLaws
 pub mod SeenLaws
 pub mod VarLaws

@@ -1,3 +1,4 @@
+pub mod Explained
 pub mod InsertLaws
 pub mod Linear
 pub mod LinearLaws

@@ -108,6 +108,12 @@ is_equality AtMost = false
 is_equality Equal = true
 is_equality Differ = false
 
+-- the sum is to differ
+abbrev pub is_difference : Relation → Bool
+is_difference AtMost = false
+is_difference Equal = false
+is_difference Differ = true
+
 -- the argument is this variable
 abbrev pub is_read_by : Arg → VarId → Bool
 is_read_by (Var w) u = w.0 == u.0

@@ -1,6 +1,8 @@
 //! Linear relations: sums of variables with coefficients, compared with a number.
 #![tactic(auto)]
 
+mod argued;
+mod explained;
 mod linear;
 mod output;
 mod reified;

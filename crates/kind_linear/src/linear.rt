@@ -3,7 +3,8 @@ ghost use Rattle.std.specs.Prelude.{◌≡◌, IfOk, length};
 ghost use Rattle.kind_linear.specs.Sum.{terms_of};
 ghost use Rattle.kind_linear.specs.Output.{can_define};
 
-use crate::relation::{Relation, is_equality, is_kept, is_met, is_refuted, truth_over};
+use crate::explained::write_sum_reason;
+use crate::relation::{Relation, is_difference, is_equality, is_kept, is_met, is_refuted, truth_over};
 use crate::slack::Slack;
 use crate::term::{Reading, Term, is_unit, pair_up};
 use crate::total::total_of;
@@ -229,6 +230,14 @@ impl Propagate for Linear {
         implied: Option<Literal>,
         out: &mut Clause,
     ) -> Result<(), AllocError> {
-        reason_of(self, cells, implied, out)
+        if !self.single || is_difference(self.relation) {
+            return reason_of(self, cells, implied, out);
+        }
+        out.clear();
+        let written = write_sum_reason(self, cells, implied, out);
+        if written.is_err() {
+            out.clear();
+        }
+        written
     }
 }

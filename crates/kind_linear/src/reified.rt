@@ -5,6 +5,7 @@ ghost use Rattle.kind_linear.specs.Output.{HasBits};
 ghost use Rattle.kind_linear.specs.Reified.{number_of, bound_row, truth_row, arg_movement};
 ghost use Rattle.kind_linear.specs.Sum.{terms_of, ArgHas};
 
+use crate::argued::{Verdict, verdict_of, write_truth_reason};
 use crate::linear::Linear;
 use crate::relation::Relation;
 use crate::term::{Reading, span, var_of};
@@ -114,6 +115,40 @@ impl LinearReified {
     }
 }
 
+impl LinearReified {
+    ghost use Rattle.std.specs.Prelude.{◌≡◌, [], length, OnOk, OnErr};
+    ghost use Rattle.dom_cells.specs.Box.{cell_of};
+    ghost use Rattle.kind_law.specs.Laws.{AllBelow, hulls};
+    ghost use Rattle.kind_law.specs.Reason.{IsCause, IsRead, IsReason, asked};
+    ghost use Rattle.kind_linear.specs.Explained.{IsVerdict};
+    ghost use Rattle.kind_linear.specs.Reified.{truth_refuted, truth_vars};
+    ghost use Rattle.kind_linear.specs.Sum.{arg_ends, total};
+
+    /// Writes the reason by one end of the output and one of the sum.
+    fn reason_by(
+        &self,
+        cells: &Cells,
+        implied: Option<Literal>,
+        verdict: Verdict,
+        out: &mut Clause,
+    ) -> Result<(), AllocError>
+        requires below { AllBelow (length cells.now.starts) (truth_vars self.now) }
+        requires cause { IsCause (truth_refuted self.now) (cell_of cells.now) implied }
+        requires var { IsRead (length cells.now.starts) implied }
+        requires verdict { IsVerdict self.now.form (total self.now.form.terms (arg_ends (hulls (asked cells.now implied)))) (arg_ends (hulls (asked cells.now implied)) self.now.output) verdict }
+        ensures reason { OnOk result (IsReason (truth_refuted self.now) cells.now implied out.new) }
+        ensures none { OnErr result (out.new ≡ []) }
+    {
+        out.clear();
+        let written =
+            write_truth_reason(&self.linear, self.output, cells, implied, verdict, out);
+        if written.is_err() {
+            out.clear();
+        }
+        written
+    }
+}
+
 impl Kind for LinearReified {
     ghost use Rattle.std.specs.Prelude.{false};
     ghost use Rattle.kind_linear.specs.Linear.{FormFits};
@@ -178,7 +213,10 @@ impl Propagate for LinearReified {
         implied: Option<Literal>,
         out: &mut Clause,
     ) -> Result<(), AllocError> {
-        reason_of(self, cells, implied, out)
+        match verdict_of(&self.linear, self.output, cells, implied) {
+            None => reason_of(self, cells, implied, out),
+            Some(verdict) => self.reason_by(cells, implied, verdict, out),
+        }
     }
 }
 

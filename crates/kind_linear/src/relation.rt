@@ -2,7 +2,7 @@
 ghost use Rattle.std.specs.Prelude.{◌≡◌};
 ghost use Rattle.dom_core.specs.Ends.{IsOrdered};
 ghost use Rattle.kind_linear.specs.Relation.{is_related, refuted_by, certain_by, kept_by, is_only_value};
-ghost use Rattle.kind_linear.specs.Output.{is_equality, HasBits};
+ghost use Rattle.kind_linear.specs.Output.{is_difference, is_equality, HasBits};
 ghost use Rattle.kind_linear.specs.Reified.{truth_ends};
 
 use dom_core::Interval;
@@ -40,7 +40,7 @@ pub(crate) fn is_refuted(relation: Relation, total: Interval, bound: i64) -> boo
 }
 
 /// Whether each sum between the ends stands in the relation.
-fn is_certain(relation: Relation, total: Interval, bound: i64) -> bool
+pub(crate) fn is_certain(relation: Relation, total: Interval, bound: i64) -> bool
     ensures certain { result ≡ certain_by relation total bound }
     ensures ordered { IsOrdered total }
 {
@@ -95,5 +95,16 @@ pub(crate) fn is_equality(relation: Relation) -> bool
         Relation::AtMost => false,
         Relation::Equal => true,
         Relation::Differ => false,
+    }
+}
+
+/// Whether the sum is to differ.
+pub(crate) fn is_difference(relation: Relation) -> bool
+    ensures { result ≡ is_difference relation }
+{
+    match relation {
+        Relation::AtMost => false,
+        Relation::Equal => false,
+        Relation::Differ => true,
     }
 }
