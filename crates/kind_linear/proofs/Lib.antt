@@ -3,3 +3,5 @@ pub mod SeenLaws
 pub mod VarLaws
 pub mod SolvedLaws
 pub mod SlackLaws
+pub mod ReachLaws
+pub mod EndLaws

@@ -3,6 +3,7 @@
 
 mod linear;
 mod output;
+mod reach;
 mod reified;
 mod relation;
 mod slack;
