@@ -5,3 +5,4 @@ pub mod SolvedLaws
 pub mod SlackLaws
 pub mod ReachLaws
 pub mod EndLaws
+pub mod PairLaws

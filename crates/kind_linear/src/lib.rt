@@ -1,6 +1,8 @@
 //! Linear relations: sums of variables with coefficients, compared with a number.
 #![tactic(auto)]
 
+#[cfg(test)]
+mod implied_tests;
 mod linear;
 mod output;
 mod reach;

@@ -87,7 +87,12 @@ impl Slack<'_> {
             size: self.coef.unsigned_abs(),
             steps: distance(cells, var),
         };
-        reach(self.linear.relation(), self.total, self.linear.bound(), pull)
+        reach(
+            self.linear.relation(),
+            self.total,
+            self.linear.bound(),
+            pull,
+        )
     }
 }
 
