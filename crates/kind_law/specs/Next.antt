@@ -108,3 +108,11 @@ pub record IsBound (vars : List VarId) (n : ℕ) (b : ℕ → Start) (l : Litera
 abbrev pub IsFirstEnd : ((ℕ → Start) → Bool) → (ℕ → Start) → VarId → Option Literal → Type 0
 IsFirstEnd refuted b u None = HasNoEnd refuted b u
 IsFirstEnd refuted b u (Some l) = (l.var ≡ u) × IsEndOf refuted b u l.rel l.value
+
+-- the lower end that is implied, no further one being implied
+abbrev pub IsImpliedLow : ((ℕ → Start) → Bool) → (ℕ → Start) → VarId → Option Literal → Type 0
+IsImpliedLow refuted b u r = IsSideEnd refuted b u Low r
+
+-- the upper end that is implied, no further one being implied
+abbrev pub IsImpliedHigh : ((ℕ → Start) → Bool) → (ℕ → Start) → VarId → Option Literal → Type 0
+IsImpliedHigh refuted b u r = IsSideEnd refuted b u High r

@@ -51,15 +51,6 @@ kept_total k c known b u l s e =
     ∙ ap (λ (t : Ends). replaced_ends t (scaled_ends c (ends_of (b u.0))) (scaled_ends c (ends_of (kept b l u.0))))
     (sym (total-insert s.front s.back own (arg_ends (hulls b))) ∙ sym (ap (λ (ts : List Term). total ts (arg_ends (hulls b))) s.split) ∙ sym s.sum)
 
-first_of_two : (a b c : ℕ) → a ≡ b + c → a ≤ 2 ^ 101 → b ≤ 2 ^ 101
-first_of_two a b c e h = omega arith
-
-pub own_size : (k : Form) (c : ℤ) (known : Ends) (b : ℕ → Start) (u : VarId) → IsSlack k c known b u → size_of (scaled_ends c (ends_of (b u.0))) ≤ 2 ^ 101
-own_size k c known b u s =
-    let own : Term = record { coef = c; arg = Var u } in
-    first_of_two (magnitude k.terms (arg_ends (hulls b))) (size_of (scaled_ends c (ends_of (b u.0)))) (magnitude (s.front ++ s.back) (arg_ends (hulls b)))
-    (ap (λ (ts : List Term). magnitude ts (arg_ends (hulls b))) s.split ∙ magnitude-insert s.front s.back own (arg_ends (hulls b))) s.fits
-
 pub rest_is : (k : Form) (c : ℤ) (known : Ends) (b : ℕ → Start) (u : VarId) → (s : IsSlack k c known b u)
     → known ≡ sum_ends (scaled_ends c (ends_of (b u.0))) (total (s.front ++ s.back) (arg_ends (hulls b)))
 rest_is k c known b u s =
@@ -277,20 +268,7 @@ pub none_at_all : (refuted : (ℕ → Start) → Bool) (k : Form) (b : ℕ → S
 none_at_all refuted k b i h single none =
     subst (Each (HasNoEnd refuted b)) (sym (single_vars k single)) (subst (λ (ts : List Term). Each (HasNoEnd refuted b) (vars_of ts)) (take_all_of k.terms i h) none)
 
--- ---- how large replaced sums are
-
-pub replaced_fits : (t old new : Ends) → size_of t ≤ 2 ^ 101 → size_of old ≤ 2 ^ 101 → size_of new ≤ 2 ^ 101
-    → (FitsSigned w128 (t.lo -ℤ old.lo) × FitsSigned w128 ((t.lo -ℤ old.lo) +ℤ new.lo)) × (FitsSigned w128 (t.hi -ℤ old.hi) × FitsSigned w128 ((t.hi -ℤ old.hi) +ℤ new.hi))
-replaced_fits t old new f g h =
-    let a : unsigned_abs t.lo ≤ 2 ^ 101 = omega arith in
-    let b : unsigned_abs t.hi ≤ 2 ^ 101 = omega arith in
-    let c : unsigned_abs old.lo ≤ 2 ^ 101 = omega arith in
-    let d : unsigned_abs old.hi ≤ 2 ^ 101 = omega arith in
-    let e : unsigned_abs new.lo ≤ 2 ^ 101 = omega arith in
-    let k : unsigned_abs new.hi ≤ 2 ^ 101 = omega arith in
-    ((omega (arith, ints), omega (arith, ints)), (omega (arith, ints), omega (arith, ints)))
-
--- ---- what a probe computes
+-- ---- the term and the others
 
 -- the one term's variable is one of the relation's
 pub own_has : (P : VarId → Type 0) (k : Form) (c : ℤ) (known : Ends) (b : ℕ → Start) (u : VarId) → IsSlack k c known b u → Each P (form_vars k) → P u
@@ -309,21 +287,6 @@ known_size k c known b u s =
     let f : magnitude k.terms (arg_ends (hulls b)) ≤ 2 ^ 101 = s.fits in
     omega arith
 
-ends_part : (b : ℕ → Start) (l : Literal) (v : ℕ) → is_end l.rel ≡ true → IsSane (b v) → IsSane (kept b l v) → EndsIn (ends_of (kept b l v)) (ends_of (b v))
-ends_part b l v e sane cut =
-    let p : IsPart true (kept b l v) (b v) = part true (kept b l v) (b v) cut sane (λ x h. kept_has b l v x e h) in
-    record { low = p.low; order = sane-ends (kept b l v) cut; high = p.high }
-
-below_both : (a b n : ℕ) → a ≤ b → b ≤ n → a ≤ n
-below_both a b n h g = omega arith
-
-pub kept_size : (k : Form) (c : ℤ) (known : Ends) (b : ℕ → Start) (u : VarId) (l : Literal) → IsSlack k c known b u → is_end l.rel ≡ true
-    → IsSane (b u.0) → IsSane (kept b l u.0) → size_of (scaled_ends c (ends_of (kept b l u.0))) ≤ 2 ^ 101
-kept_size k c known b u l s e sane cut =
-    below_both (size_of (scaled_ends c (ends_of (kept b l u.0)))) (size_of (scaled_ends c (ends_of (b u.0)))) (2 ^ 101)
-    (smaller_size (scaled_ends c (ends_of (kept b l u.0))) (scaled_ends c (ends_of (b u.0))) (scaled_in c (ends_of (kept b l u.0)) (ends_of (b u.0)) (ends_part b l u.0 e sane cut)))
-    (own_size k c known b u s)
-
 less_part : (known own rest : Ends) → known ≡ sum_ends own rest → rest.lo ≤ℤ rest.hi → (known.lo -ℤ own.lo) ≤ℤ (known.hi -ℤ own.hi)
 less_part known own rest e h =
     let lo : known.lo ≡ (own.lo +ℤ rest.lo) = ap (λ (x : Ends). x.lo) e in
@@ -338,20 +301,3 @@ rest_ordered k c known b u s sane =
     (each_map (λ w. IsSane (b w.0)) (λ w. EndsIn (hulls b w.0) (hulls b w.0)) (vars_of (s.front ++ s.back))
     (λ w h. record { low = omega (arith, ints); order = sane-ends (b w.0) h; high = omega (arith, ints) })
     (others_have (λ w. IsSane (b w.0)) k c known b u s sane))).order
-
--- the answer for the box with the bound
-pub answer_is : (k : Form) (c : ℤ) (known : Ends) (b : ℕ → Start) (l : Literal) (r : Relation) (old new t : Ends) (bound : ℤ) → IsSlack k c known b l.var
-    → r ≡ k.relation → old ≡ scaled_ends c (ends_of (b l.var.0)) → new ≡ scaled_ends c (ends_of (kept b l l.var.0)) → t ≡ replaced_ends known old new → bound ≡ k.bound
-    → refuted_by r t bound ≡ form_refuted k (kept b l)
-answer_is k c known b l r old new t bound s e f g h i =
-    ap (λ (q : Relation). refuted_by q t bound) e
-    ∙ ap (λ (x : Ends). refuted_by k.relation x bound)
-    (h ∙ ap (λ (x : Ends). replaced_ends known x new) f ∙ ap (replaced_ends known (scaled_ends c (ends_of (b l.var.0)))) g ∙ sym (kept_total k c known b l.var l s refl))
-    ∙ ap (refuted_by k.relation (total k.terms (arg_ends (hulls (kept b l))))) i
-
-pub exchanged_order : (t old new : Ends) (lo hi : ℤ) → lo ≡ ((t.lo -ℤ old.lo) +ℤ new.lo) → hi ≡ ((t.hi -ℤ old.hi) +ℤ new.hi) → (t.lo -ℤ old.lo) ≤ℤ (t.hi -ℤ old.hi)
-    → new.lo ≤ℤ new.hi → lo ≤ℤ hi
-exchanged_order t old new lo hi e f h g = omega (arith, ints)
-
-pub exchanged_is : (r x y z a b d : ℤ) → r ≡ ((x -ℤ y) +ℤ z) → x ≡ a → y ≡ b → z ≡ d → r ≡ ((a -ℤ b) +ℤ d)
-exchanged_is r x y z a b d e f g h = omega (arith, ints)

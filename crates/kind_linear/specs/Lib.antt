@@ -4,6 +4,7 @@ pub mod Linear
 pub mod LinearLaws
 pub mod Output
 pub mod OutputLaws
+pub mod Reach
 pub mod Reified
 pub mod ReifiedLaws
 pub mod Relation

@@ -1,5 +1,5 @@
 -- Sums of which the interval is known, and one of whose terms changes.
-use Rattle.std.specs.Prelude.{◌≡◌, List, [], ◌∷◌, ◌++◌, ℕ, ℤ, pos, ◌+ℤ◌, ◌-ℤ◌, Bool, true, length, Option, None, Some, slice_index_or}
+use Rattle.std.specs.Prelude.{◌≡◌, List, [], ◌∷◌, ◌++◌, ℕ, ℤ, pos, ◌+ℤ◌, ◌-ℤ◌, Bool, true, unsigned_abs, length, Option, None, Some, slice_index_or}
 use Rattle.dom_core.specs.Ends.{Ends}
 use Rattle.dom_core.specs.declared.arg.Arg.{Arg}
 use Rattle.dom_core.specs.declared.arg.Arg.TheVariants.{Var, Const}
@@ -7,14 +7,19 @@ use Rattle.dom_core.specs.declared.literal.Literal.{Literal}
 use Rattle.dom_cells.specs.declared.start.Start.{Start}
 use Rattle.dom_core.specs.declared.var_id.VarId.{VarId}
 use Rattle.kind_law.specs.Laws.{Each, hulls}
-use Rattle.kind_law.specs.Next.{IsFirstEnd}
+use Rattle.kind_law.specs.Next.{IsFirstEnd, size_of}
 use Rattle.kind_linear.specs.Linear.{Form, form_vars, FormFits}
 use Rattle.kind_linear.specs.Sum.{arg_ends, total, vars_of}
+use Rattle.kind_linear.specs.declared.reach.Pull.{Pull}
 use Rattle.kind_linear.specs.declared.term.Term.{Term}
 
 -- the interval of a sum where one of its parts is replaced by another
 abbrev pub replaced_ends : Ends → Ends → Ends → Ends
 replaced_ends t old new = record { lo = (t.lo -ℤ old.lo) +ℤ new.lo; hi = (t.hi -ℤ old.hi) +ℤ new.hi }
+
+-- what an end of the cell does to a sum, by a term with this coefficient
+abbrev pub pull_of : Bool → ℤ → Start → Pull
+pull_of rises c cell = record { rises = rises; size = unsigned_abs c; steps = size_of cell }
 
 -- the term at this place
 abbrev pub term_at : List Term → ℕ → Term

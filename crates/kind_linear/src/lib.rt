@@ -3,8 +3,11 @@
 
 mod argued;
 mod explained;
+#[cfg(test)]
+mod implied_tests;
 mod linear;
 mod output;
+mod reach;
 mod reified;
 mod relation;
 mod slack;

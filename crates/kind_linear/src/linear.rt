@@ -13,7 +13,7 @@ use dom_cells::{Cells, Hulls, Point, Region};
 use dom_core::{
     After, Arg, Assignment, Changes, Clause, Interval, Intervals, Literal, VarId, View,
 };
-use kind_law::{Kind, Propagate, first_end, next_of, reason_of};
+use kind_law::{Kind, Propagate, next_of, reason_of};
 use std::alloc::{AllocError, Global};
 use std::marker::Model;
 
@@ -39,7 +39,7 @@ impl Model for Linear {
 }
 
 impl Linear {
-    ghost use Rattle.std.specs.Prelude.{◌≡◌, ◌<◌, ◌≤◌, ◌^◌};
+    ghost use Rattle.std.specs.Prelude.{◌≡◌, ◌<◌, ◌≤◌, ◌^◌, false};
     ghost use Rattle.dom_cells.specs.Box.{cell_of};
     ghost use Rattle.kind_law.specs.Laws.{Each, AllBelow, hulls};
     ghost use Rattle.kind_law.specs.Next.{IsNext};
@@ -115,6 +115,7 @@ impl Linear {
         requires below { AllBelow (length cells.now.starts) (form_vars self.now) }
         requires sum { known ≡ total self.now.terms (arg_ends (hulls (cell_of cells.now))) }
         requires fits { FormFits self.now (hulls (cell_of cells.now)) }
+        requires quiet { form_refuted self.now (cell_of cells.now) ≡ false }
         ensures { IsNext (form_refuted self.now) (form_vars self.now) (cell_of cells.now) result }
     {
         for at in 0..self.terms.len() {
@@ -133,6 +134,7 @@ impl Linear {
         requires below { AllBelow (length cells.now.starts) (form_vars self.now) }
         requires sum { known ≡ total self.now.terms (arg_ends (hulls (cell_of cells.now))) }
         requires fits { FormFits self.now (hulls (cell_of cells.now)) }
+        requires quiet { form_refuted self.now (cell_of cells.now) ≡ false }
         ensures { IsArgEnd (form_refuted self.now) (cell_of cells.now) (term_at self.now.terms at).arg result }
     {
         let term = self.terms[at];
@@ -144,7 +146,7 @@ impl Linear {
                     coef: term.coef,
                     total: known,
                 };
-                first_end(&slack, cells, var)
+                slack.first_end(cells, var)
             }
         }
     }

@@ -81,7 +81,7 @@ pub(crate) fn is_kept(relation: Relation, change: Interval, after: Interval, bou
 }
 
 /// Whether the number is the only one of the interval.
-fn is_only(interval: Interval, value: i128) -> bool
+pub(crate) fn is_only(interval: Interval, value: i128) -> bool
     ensures { result ≡ is_only_value interval value }
 {
     interval.lo() == value && interval.hi() == value

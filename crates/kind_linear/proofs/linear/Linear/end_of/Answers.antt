@@ -1,25 +1,14 @@
-use Rattle.std.proofs.Common.{rules, ◌≡◌, ◌∙◌, sym, ap, subst, List, length, take, get_or, ℤ, FitsSigned, w64, to_z, of_z}
+use Rattle.std.proofs.Common.{rules, ◌≡◌, ◌∙◌, sym, ap, subst, ◌<◌, length, get_or, ℤ, FitsSigned, w64, to_z, of_z}
 use Rattle.std.proofs.lemmas.Int.{to_z-of_z}
 use Rattle.dom_cells.specs.Box.{cell_of}
 use Rattle.kind_linear.specs.Linear.{Form}
 use Rattle.kind_linear.specs.Slack.{IsSlack}
-use Rattle.kind_linear.specs.Sum.{vars_of}
 use Rattle.kind_linear.specs.declared.term.Term.{Term}
-use Rattle.kind_linear.proofs.SlackLaws.{slack_here, place_here}
+use Rattle.kind_linear.proofs.SlackLaws.{slack_here, own_has}
 use Rattle.kind_linear.proofs.linear.Linear.end_of.Goals as goal
 
-pub first_end-requires-clause-var : goal.first_end-requires-clause-var
-first_end-requires-clause-var c =
-    let here : get_or c.args.self.now.terms c.args.at c.index-term.result.now ≡ c.index-term.result.now =
-    sym (c.index-term.ensures ∙ ap (λ (k : Form). get_or k.terms c.args.at c.index-term.result.now) c.self.view_is) in
-    record {
-      below = c.requires.below;
-      place = length (vars_of (take c.args.at c.args.self.now.terms));
-      reads = place_here c.args.self.now c.args.at c.index-term.result.now c.in-Var.var c.requires.at (ap (λ (t : Term). t.arg) here ∙ c.in-Var.is) c.requires.single;
-    }
-
-pub first_end-requires-clause-answers : goal.first_end-requires-clause-answers
-first_end-requires-clause-answers c =
+pub first_end-requires-clause-slack : goal.first_end-requires-clause-slack
+first_end-requires-clause-slack c =
     let here : get_or c.args.self.now.terms c.args.at c.index-term.result.now ≡ c.index-term.result.now =
     sym (c.index-term.ensures ∙ ap (λ (k : Form). get_or k.terms c.args.at c.index-term.result.now) c.self.view_is) in
     let fits : FitsSigned w64 c.index-term.result.now.coef = search rules in
@@ -27,3 +16,11 @@ first_end-requires-clause-answers c =
     (ap (λ (t : Term). t.coef) here ∙ sym (to_z-of_z w64 c.index-term.result.now.coef fits))
     (slack_here c.args.self.now c.args.at c.index-term.result.now c.in-Var.var c.args.known (cell_of c.args.cells.now) c.requires.at
     (ap (λ (t : Term). t.arg) here ∙ c.in-Var.is) c.requires.single c.requires.sum c.requires.fits)
+
+pub first_end-requires-clause-var : goal.first_end-requires-clause-var
+first_end-requires-clause-var c =
+    let here : get_or c.args.self.now.terms c.args.at c.index-term.result.now ≡ c.index-term.result.now =
+    sym (c.index-term.ensures ∙ ap (λ (k : Form). get_or k.terms c.args.at c.index-term.result.now) c.self.view_is) in
+    own_has (λ u. u.0 < length c.args.cells.now.starts) c.args.self.now (get_or c.args.self.now.terms c.args.at c.index-term.result.now).coef c.args.known (cell_of c.args.cells.now) c.in-Var.var
+    (slack_here c.args.self.now c.args.at c.index-term.result.now c.in-Var.var c.args.known (cell_of c.args.cells.now) c.requires.at
+    (ap (λ (t : Term). t.arg) here ∙ c.in-Var.is) c.requires.single c.requires.sum c.requires.fits) c.requires.below
