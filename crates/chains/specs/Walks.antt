@@ -54,6 +54,10 @@ StaysWithin links start count size = (i : ℕ) → i < count → after links i s
 abbrev pub StaySeen : List Mark → List Mark → Type 0
 StaySeen old new = (k : ℕ) → mark_at new k ≡ Unseen → mark_at old k ≡ Unseen
 
+-- a walk to this end, over so many places that were unseen
+abbrev pub walk_of : Option ℕ → ℕ → Walk
+walk_of end count = record { end = end; count = count }
+
 -- the chain was followed to its end, or to where it is known
 pub record IsWalked (links : List Link) (start : ℕ) (old new : List Mark) (walk : Walk) : Type 0 where
   pub size : length new ≡ length old

@@ -1,7 +1,7 @@
 //! One walk along a chain.
 ghost use Rattle.std.specs.Prelude.{◌≡◌, ◌<◌, length};
 ghost use Rattle.chains.specs.Chains.{IsEnd};
-ghost use Rattle.chains.specs.Walks.{AreRight, AreRightBut, IsFollowed, IsWalked, IsSettled, StaysWithin};
+ghost use Rattle.chains.specs.Walks.{AreRight, AreRightBut, walk_of, IsFollowed, IsWalked, IsSettled, StaysWithin};
 
 use crate::link::{Link, link_at, next_of};
 use crate::marks::{Mark, Marks, end_of, mark_of};
@@ -11,6 +11,12 @@ use crate::marks::{Mark, Marks, end_of, mark_of};
 pub(crate) struct Walk {
     pub(crate) end: Option<usize>,
     pub(crate) count: usize,
+}
+
+const fn walk_of(end: Option<usize>, count: usize) -> Walk
+    ensures { result ≡ walk_of end count }
+{
+    Walk { end, count }
 }
 
 // Follows the chain from this place to its end, or to a place that was seen. Those on the way are marked as endless.
@@ -25,20 +31,12 @@ fn trace(links: &[Link], marks: &mut Marks, start: usize) -> Walk
         marks.put(place, Mark::Endless);
         count += 1;
         match link_at(links, place) {
-            Link::End => {
-                return Walk {
-                    end: Some(place),
-                    count,
-                };
-            }
-            Link::Nothing => return Walk { end: None, count },
+            Link::End => return walk_of(Some(place), count),
+            Link::Nothing => return walk_of(None, count),
             Link::To(next) => place = next,
         }
     }
-    Walk {
-        end: end_of(marks.at(place)),
-        count,
-    }
+    walk_of(end_of(marks.at(place)), count)
 }
 
 // Marks the places of the walk by its end.

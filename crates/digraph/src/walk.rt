@@ -15,13 +15,13 @@ struct Visit {
     rank: usize,
 }
 
-/// A walk in depth. A node on the path, or open behind it, has the least rank that it is known to lead back to;
+/// A walk in depth. A node on the path, or waiting behind it, has the least rank that it is known to lead back to;
 /// the nodes of a whole component have one rank, above all these and below that of the components made before.
 #[derive(Drop)]
 struct Walk {
     ranks: Vec<usize>,
     path: Vec<Visit>,
-    open: Vec<usize>,
+    waiting: Vec<usize>,
     component: usize,
 }
 
@@ -30,7 +30,7 @@ pub(crate) fn components(alloc: Global, graph: &Digraph) -> Result<Vec<usize>, A
     let mut walk = Walk {
         ranks: vec![in alloc; UNSEEN; graph.len()]?,
         path: Vec::new(alloc),
-        open: Vec::new(alloc),
+        waiting: Vec::new(alloc),
         component: usize::MAX - 1,
     };
     for root in 0..graph.len() {
@@ -52,7 +52,7 @@ impl Walk {
     }
 
     fn put(&mut self, node: usize, rank: usize)
-        ensures { self.new.open ≡ self.old.open }
+        ensures { self.new.waiting ≡ self.old.waiting }
     {
         if node < self.ranks.len() {
             self.ranks[node] = rank;
@@ -69,7 +69,7 @@ impl Walk {
         let rank = self
             .path
             .len()
-            .saturating_add(self.open.len())
+            .saturating_add(self.waiting.len())
             .saturating_add(1);
         self.path.push(Visit {
             node,
@@ -118,7 +118,7 @@ impl Walk {
         if self.rank(visit.node) == visit.rank {
             self.close(visit);
         } else {
-            self.open.push(visit.node)?;
+            self.waiting.push(visit.node)?;
         }
         let rank = self.rank(visit.node);
         if let Some(before) = self.path.last() {
@@ -128,25 +128,25 @@ impl Walk {
         Ok(())
     }
 
-    // The component of this node is whole: it has the nodes that were left open since the walk came to it.
+    // The component of this node is whole: it has the nodes that have waited since the walk came to it.
     fn close(&mut self, visit: Visit) {
         let component = self.component;
-        while let Some(node) = self.pop_open(visit.rank) {
+        while let Some(node) = self.pop_waiting(visit.rank) {
             self.put(node, component);
         }
         self.put(visit.node, component);
         self.component = component.saturating_sub(1);
     }
 
-    // The last open node, where its rank is at least this.
-    fn pop_open(&mut self, least: usize) -> Option<usize>
-        ensures { IfSome result (λ _. vec_len self.new.open < vec_len self.old.open) }
+    // The last node that waits, where its rank is at least this.
+    fn pop_waiting(&mut self, least: usize) -> Option<usize>
+        ensures { IfSome result (λ _. vec_len self.new.waiting < vec_len self.old.waiting) }
     {
-        let node = *self.open.last()?;
+        let node = *self.waiting.last()?;
         if self.rank(node) < least {
             return None;
         }
-        self.open.pop()
+        self.waiting.pop()
     }
 }
 

@@ -85,56 +85,80 @@ fn constraints(
     Ok(Sequence::from_vec(constraints))
 }
 
-const fn too_many(what: Counted, count: u64) -> Option<TooMany> {
-    Some(TooMany { what, count })
+// A text of these, without a goal.
+fn without_goal(
+    alloc: Global,
+    declarations: Sequence<Declaration>,
+    constraints: Sequence<Constraint>,
+) -> Items {
+    Items {
+        predicates: Sequence::from_vec(Vec::new(alloc)),
+        declarations,
+        constraints,
+        solve: Solve {
+            at: 0,
+            annotations: Sequence::from_vec(Vec::new(alloc)),
+            goal: Goal::Satisfy,
+        },
+    }
 }
+
+// So many variables, constraints, and entries of a value and of an argument; what is told of them.
+const SIZES: [(u32, u32, u32, u32, Option<TooMany>); 6] = [
+    (0, 0, 0, 0, None),
+    (100_000, 99_999, 100_000, 100_000, None),
+    (
+        100_001,
+        100_000,
+        100_001,
+        100_001,
+        Some(TooMany {
+            what: Counted::Variables,
+            count: 100_001,
+        }),
+    ),
+    (
+        100_000,
+        100_000,
+        100_001,
+        0,
+        Some(TooMany {
+            what: Counted::Constraints,
+            count: 100_001,
+        }),
+    ),
+    (
+        1,
+        1,
+        100_001,
+        100_002,
+        Some(TooMany {
+            what: Counted::ArrayEntries,
+            count: 100_001,
+        }),
+    ),
+    (
+        1,
+        1,
+        100_000,
+        100_002,
+        Some(TooMany {
+            what: Counted::ArrayEntries,
+            count: 100_002,
+        }),
+    ),
+];
 
 #[test]
 fn the_first_thing_that_is_too_many_is_told(rt: HostRuntime) -> Result<(), Fail> {
     let alloc = rt.alloc();
-    for (variables, others, value, argument, want) in [
-        (0, 0, 0, 0, None),
-        (100_000, 99_999, 100_000, 100_000, None),
-        (
-            100_001,
-            100_000,
-            100_001,
-            100_001,
-            too_many(Counted::Variables, 100_001),
-        ),
-        (
-            100_000,
-            100_000,
-            100_001,
-            0,
-            too_many(Counted::Constraints, 100_001),
-        ),
-        (
-            1,
-            1,
-            100_001,
-            100_002,
-            too_many(Counted::ArrayEntries, 100_001),
-        ),
-        (
-            1,
-            1,
-            100_000,
-            100_002,
-            too_many(Counted::ArrayEntries, 100_002),
-        ),
-    ] {
-        let items = Items {
-            predicates: Sequence::from_vec(Vec::new(alloc)),
-            declarations: declarations(alloc, variables, value)?,
-            constraints: constraints(alloc, others, argument)?,
-            solve: Solve {
-                at: 0,
-                annotations: Sequence::from_vec(Vec::new(alloc)),
-                goal: Goal::Satisfy,
-            },
-        };
-        assert!(rt; count_items(&items).err() == want, "the first of them");
+    for (variables, others, value, argument, want) in &SIZES {
+        let items = without_goal(
+            alloc,
+            declarations(alloc, *variables, *value)?,
+            constraints(alloc, *others, *argument)?,
+        );
+        assert!(rt; count_items(&items).err() == *want, "the first of them");
     }
     Ok(())
 }

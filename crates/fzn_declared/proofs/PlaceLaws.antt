@@ -5,7 +5,7 @@ use Rattle.std.proofs.lemmas.Bool.{cases_Bool}
 use Rattle.std.proofs.lemmas.Slice.Eq.{bytes_eq-Decides}
 use Rattle.fzn_syntax.specs.declared.declaration.Declaration.{Declaration}
 use Rattle.fzn_scope.specs.Names.{name_of, names_of, AreDifferent, IsPlaced, IsUndeclared}
-use Rattle.fzn_floats.proofs.FoundLaws.{named_at}
+use Rattle.fzn_scope.proofs.Places.{named_at}
 use Rattle.fzn_declared.specs.Places.{places_from, places_of}
 
 -- a name that is not declared has no place

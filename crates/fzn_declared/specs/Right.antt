@@ -15,17 +15,12 @@ use Rattle.fzn_scope.specs.declared.typing.Reading.{Reading}
 use Rattle.fzn_scope.specs.declared.typing.Reading.TheVariants as readings
 use Rattle.fzn_scope.specs.Bases.{base_of_parameter, base_of_variable}
 use Rattle.fzn_scope.specs.Names.{IsNamed}
-use Rattle.fzn_scope.specs.Typing.{Fits, AllFit}
+use Rattle.fzn_scope.specs.Typing.{IsScalar, AllFit}
 use Rattle.fzn_declared.specs.Marks.{IsRightMark}
 
 -- the indices begin with 1 and end with 0 or above
 abbrev pub IsIndex : IndexRange → Type 0
 IsIndex r = (r.first ≡ pos 1) × (pos 0 ≤ℤ r.last)
-
--- one literal or name that fits
-abbrev pub IsScalar : List Declaration → Reading → Base → Expression → Type 0
-IsScalar ds r base (expressions.Basic b) = Fits ds r base b
-IsScalar ds r base (expressions.List bs) = ⊥
 
 -- a list of so many literals or names that fit
 abbrev pub AreEntries : List Declaration → Reading → Base → ℤ → Expression → Type 0

@@ -1,13 +1,13 @@
 //! The fault of a solve item.
 ghost use Rattle.std.specs.Prelude.{◌≡◌, ◌↔◌, IsTrue, MatchOption, true, false};
 ghost use Rattle.fzn_scope.specs.declared.base.Base.TheVariants as bases;
-ghost use Rattle.fzn_scope.specs.Sorts.{sort, sort_of, Names};
+ghost use Rattle.fzn_scope.specs.Sorts.{sort, Names};
 ghost use Rattle.fzn_declared.specs.Goals.{AimsAtFloatOrSet, IsRightGoal, IsSolveFault, IsSolveFine};
 
 use crate::fault::ItemFault;
-use fzn_floats::{found, names_float_or_set};
-use fzn_scope::{Base, Scope, Sort, sort_of};
-use fzn_syntax::{Declaration, Goal, Solve};
+use fzn_floats::names_float_or_set;
+use fzn_scope::{Base, Scope, Sort, names};
+use fzn_syntax::{Goal, Solve};
 
 fn aims_at_float_or_set(scope: &Scope<'_>, goal: &Goal) -> bool
     ensures { IsTrue result ↔ AimsAtFloatOrSet scope.now goal.now }
@@ -19,24 +19,15 @@ fn aims_at_float_or_set(scope: &Scope<'_>, goal: &Goal) -> bool
     }
 }
 
-fn is_integer_variable(declaration: &Declaration) -> bool
-    ensures { IsTrue result ↔ (sort_of declaration.now ≡ sort bases.Int true false) }
+fn names_integer(scope: &Scope<'_>, name: &[u8]) -> bool
+    ensures { IsTrue result ↔ Names scope.now name.now (sort bases.Int true false) }
 {
     let variable = Sort {
         base: Base::Int,
         is_variable: true,
         is_array: false,
     };
-    sort_of(declaration) == variable
-}
-
-fn names_integer(scope: &Scope<'_>, name: &[u8]) -> bool
-    ensures { IsTrue result ↔ Names scope.now name.now (sort bases.Int true false) }
-{
-    match found(scope, name) {
-        None => false,
-        Some(declaration) => is_integer_variable(declaration),
-    }
+    names(scope, name, variable)
 }
 
 fn is_right_goal(scope: &Scope<'_>, goal: &Goal) -> bool

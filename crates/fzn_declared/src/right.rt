@@ -1,10 +1,10 @@
 //! Which declarations are right, floats and set variables aside.
 ghost use Rattle.std.specs.Prelude.{◌≡◌, ◌↔◌, IsTrue, IfOk, pos};
-ghost use Rattle.fzn_declared.specs.Right.{IsIndex, IsScalar, AreEntries, IsParameters, NamesParameters, IsArray, AreConstants, IsRightValue, IsRightArray, IsRight};
+ghost use Rattle.fzn_declared.specs.Right.{IsIndex, AreEntries, IsParameters, NamesParameters, IsArray, AreConstants, IsRightValue, IsRightArray, IsRight};
 
 use crate::marks::are_right_marks;
 use fzn_floats::found;
-use fzn_scope::{Base, Reading, Scope, are_all, base_of_parameter, base_of_variable, fits};
+use fzn_scope::{Base, Reading, Scope, are_all, base_of_parameter, base_of_variable, is_scalar};
 use fzn_syntax::{Basic, Declaration, Expression, IndexRange, Variable, VariableArray};
 use std::alloc::{AllocError, Global};
 
@@ -18,15 +18,6 @@ fn is_count(last: i64, count: usize) -> bool
     ensures { IsTrue result ↔ (last ≡ pos count) }
 {
     last >= 0 && last.unsigned_abs() == count as u64
-}
-
-fn is_scalar(scope: &Scope<'_>, reading: Reading, base: Base, expression: &Expression) -> bool
-    ensures { IsTrue result ↔ IsScalar scope.now reading base expression.now }
-{
-    match expression {
-        Expression::Basic(basic) => fits(scope, reading, base, basic),
-        Expression::List(_) => false,
-    }
 }
 
 fn are_entries(

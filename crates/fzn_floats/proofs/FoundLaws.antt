@@ -1,20 +1,9 @@
 -- The one declaration of a name.
-use Rattle.std.proofs.Common.{◌≡◌, ◌↔◌, ℕ, Bool, false, IsTrue, List, map, slice_get, Option, None, Some, MatchOption, refl, sym, ◌∙◌, ap, subst}
-use Rattle.std.specs.Option.{option_map}
-use Rattle.std.proofs.lemmas.Option.{slice_get-map}
+use Rattle.std.proofs.Common.{◌↔◌, ℕ, Bool, false, IsTrue, List, Option, None, Some, MatchOption, subst}
 use Rattle.fzn_syntax.specs.declared.declaration.Declaration.{Declaration}
-use Rattle.fzn_scope.specs.Names.{name_of, names_of, AreDifferent, IsNamed, IsUndeclared}
+use Rattle.fzn_scope.specs.Names.{names_of, AreDifferent, IsNamed, IsUndeclared}
+use Rattle.fzn_scope.proofs.Places.{one_named}
 use Rattle.fzn_floats.specs.Found.{IsOnly}
-
-pub named_at : (ds : List Declaration) (n : List ℕ) (k : ℕ) (d : Declaration) → slice_get ds k ≡ Some d → name_of d ≡ n → slice_get (names_of ds) k ≡ Some n
-named_at ds n k d at is = slice_get-map name_of ds k ∙ ap (option_map name_of) at ∙ ap Some is
-
--- a name is that of one declaration
-one_named : (ds : List Declaration) (n : List ℕ) (d e : Declaration) → AreDifferent (names_of ds) → IsNamed ds n d → IsNamed ds n e → e ≡ d
-one_named ds n d e different one other =
-    let same : other.0 ≡ one.0 = different other.0 one.0 n (named_at ds n other.0 e other.1 other.2) (named_at ds n one.0 d one.1 one.2) in
-    let there : slice_get ds one.0 ≡ Some e = subst (λ k. slice_get ds k ≡ Some e) same other.1 in
-    cc
 
 -- what is found by a name is the one declaration of it
 pub found_only : {R : Type 0} (now : R → Declaration) (ds : List Declaration) (n : List ℕ) (r : Option R) → AreDifferent (names_of ds)

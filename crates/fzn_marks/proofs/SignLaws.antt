@@ -21,11 +21,11 @@ either_one false k l one other = other
 
 named_kind : (text : List ℕ) → IsNamed (name_kind text)
 named_kind text =
-    either_one (bytes_eq text (codes "array")) _ _ refl (either_one (bytes_eq text (codes "bool")) _ _ refl (either_one (bytes_eq text (codes "constraint")) _ _ refl
-    (either_one (bytes_eq text (codes "false")) _ _ refl (either_one (bytes_eq text (codes "float")) _ _ refl (either_one (bytes_eq text (codes "int")) _ _ refl
-    (either_one (bytes_eq text (codes "maximize")) _ _ refl (either_one (bytes_eq text (codes "minimize")) _ _ refl (either_one (bytes_eq text (codes "of")) _ _ refl
-    (either_one (bytes_eq text (codes "predicate")) _ _ refl (either_one (bytes_eq text (codes "satisfy")) _ _ refl (either_one (bytes_eq text (codes "set")) _ _ refl
-    (either_one (bytes_eq text (codes "solve")) _ _ refl (either_one (bytes_eq text (codes "true")) _ _ refl (either_one (bytes_eq text (codes "var")) _ _ refl refl))))))))))))))
+    either_one (bytes_eq text (codes "array")) _ _ refl (either_one (bytes_eq text (codes "bool")) _ _ refl (either_one (bytes_eq text (codes "false")) _ _ refl
+    (either_one (bytes_eq text (codes "float")) _ _ refl (either_one (bytes_eq text (codes "int")) _ _ refl (either_one (bytes_eq text (codes "of")) _ _ refl
+    (either_one (bytes_eq text (codes "set")) _ _ refl (either_one (bytes_eq text (codes "true")) _ _ refl (either_one (bytes_eq text (codes "var")) _ _ refl
+    (either_one (bytes_eq text (codes "constraint")) _ _ refl (either_one (bytes_eq text (codes "maximize")) _ _ refl (either_one (bytes_eq text (codes "minimize")) _ _ refl
+    (either_one (bytes_eq text (codes "predicate")) _ _ refl (either_one (bytes_eq text (codes "satisfy")) _ _ refl (either_one (bytes_eq text (codes "solve")) _ _ refl refl))))))))))))))
 
 not_named : (s : What) → is_sign s ≡ true → is_named (code (kind_of s)) ≡ true → ⊥
 not_named what.LeftParen sign e = absurd cc

@@ -1,18 +1,14 @@
 -- The numbers of variables, and which names have one.
 use Rattle.std.proofs.Common.{◌≡◌, ℕ, zero, suc, ◌+◌, ◌<◌, ◌≤◌, List, [], ◌∷◌, ◌++◌, length, get_or, slice_index_or, Some, slice_get, ◌⊎◌, inl, inr, refl, sym, ◌∙◌, ap, subst, arith}
-use Rattle.std.specs.Option.{option_map}
-use Rattle.std.proofs.lemmas.Option.{slice_get-map, slice_get_within, get_or_from_slice_get}
+use Rattle.std.proofs.lemmas.Option.{slice_get_within, get_or_from_slice_get}
 use Rattle.dom_core.specs.declared.var_id.VarId.{VarId}
 use Rattle.fzn_model.specs.Declarations.{number_at}
 use Rattle.fzn_model.specs.Numbers.{AreNumbers, IsNumbered}
 use Rattle.fzn_scope.specs.Names.{name_of, names_of, AreDifferent, IsPlaced, IsUndeclared}
+use Rattle.fzn_scope.proofs.Places.{named_at}
 use Rattle.fzn_syntax.specs.declared.declaration.Declaration.{Declaration}
 use Rattle.fzn_syntax.specs.declared.declaration.Declaration.TheVariants.{Variable}
 use Rattle.fzn_syntax.specs.declared.declaration.Variable as syntax
-
--- the name of a declaration stands at its place
-pub named_at : (ds : List Declaration) (n : List ℕ) (k : ℕ) (d : Declaration) → slice_get ds k ≡ Some d → name_of d ≡ n → slice_get (names_of ds) k ≡ Some n
-named_at ds n k d at is = slice_get-map name_of ds k ∙ ap (option_map name_of) at ∙ ap Some is
 
 -- ---- which names have a number
 

@@ -5,7 +5,7 @@ use Rattle.dom_model.specs.declared.goal.Goal as model
 use Rattle.dom_model.specs.declared.goal.Goal.TheVariants as asked
 use Rattle.dom_model.specs.declared.kind.AnyKind.{AnyKind}
 use Rattle.dom_model.specs.declared.kind.AnyKind.TheVariants.{LinLe}
-use Rattle.fzn_model.proofs.Numbered.{named_at}
+use Rattle.fzn_scope.proofs.Places.{named_at}
 use Rattle.fzn_model.specs.Declarations.{number_at}
 use Rattle.fzn_model.specs.Numbers.{IsNumbered}
 use Rattle.fzn_model.specs.Posted.{IsVar, AreVars, AreVarsOf, AreCoefficients, IsBound, IsLinear, IsSum, IsPosted, ArePosted, IsAsked}

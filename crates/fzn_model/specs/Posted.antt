@@ -44,6 +44,10 @@ pub record AreCoefficients (ds : List Declaration) (e : Expression) (zs : List �
   pub ints : AreIntsOf ds e zs
   pub fit : AreFit zs
 
+-- the literal or name is worth this small integer
+abbrev pub IsSmallInt : List Declaration → Basic → ℤ → Type 0
+IsSmallInt ds b z = IsIntOf ds b z × IsModest z
+
 -- a small integer
 pub record IsBound (ds : List Declaration) (e : Expression) (z : ℤ) : Type 0 where
   pub basic : Basic

@@ -4,7 +4,7 @@ ghost use Rattle.dom_core.specs.declared.var_id.VarId.{VarId};
 ghost use Rattle.dom_model.specs.Bounds.{IsModest, AreModest};
 ghost use Rattle.fzn_model.specs.Answers.{Answers};
 ghost use Rattle.fzn_model.specs.Numbers.{AreNumbers};
-ghost use Rattle.fzn_model.specs.Posted.{AreCoefficients, AreFit, AreVars, AreVarsOf, IsBound, IsVar};
+ghost use Rattle.fzn_model.specs.Posted.{AreCoefficients, AreFit, AreVars, AreVarsOf, IsSmallInt, IsBound, IsVar};
 
 use crate::error::ResolveError;
 use crate::numbers::variable_named;
@@ -54,24 +54,30 @@ pub(crate) fn coefficients_of(
     }
 }
 
+fn small_int_of(values: &Values<'_>, basic: &Basic) -> Result<i64, ResolveError>
+    ensures { Answers (IsSmallInt values.now basic.now) result }
+{
+    one_integer();
+    let _ = values.scope().declarations();
+    match values.int_of(basic) {
+        None => Err(ResolveError::NotBuilt),
+        Some(value) => {
+            if is_modest(value) {
+                Ok(value)
+            } else {
+                Err(ResolveError::NotBuilt)
+            }
+        }
+    }
+}
+
 /// A small integer.
 pub(crate) fn bound_of(values: &Values<'_>, expression: &Expression) -> Result<i64, ResolveError>
     ensures { Answers (IsBound values.now expression.now) result }
 {
-    one_integer();
-    let _ = values.scope().declarations();
     match expression {
         Expression::List(_) => Err(ResolveError::NotBuilt),
-        Expression::Basic(basic) => match values.int_of(basic) {
-            None => Err(ResolveError::NotBuilt),
-            Some(value) => {
-                if is_modest(value) {
-                    Ok(value)
-                } else {
-                    Err(ResolveError::NotBuilt)
-                }
-            }
-        },
+        Expression::Basic(basic) => small_int_of(values, basic),
     }
 }
 

@@ -10,9 +10,7 @@ use Rattle.fzn_syntax.specs.declared.identifier.Identifier.{Identifier}
 use Rattle.fzn_floats.specs.Found.{IsOnly}
 use Rattle.fzn_table.specs.declared.argument_type.ArgumentType.{ArgumentType}
 use Rattle.fzn_table.specs.Table.{table, Entry, IsEntryOf, IsUnlisted}
-use Rattle.fzn_scope.specs.declared.sort.Sort.{Sort}
 use Rattle.fzn_scope.specs.Names.{IsNamed, IsUndeclared}
-use Rattle.fzn_scope.specs.Sorts.{sort_of, Names}
 use Rattle.fzn_values.specs.Worth.{AreIntsOf}
 use Rattle.fzn_posted.specs.Arguments.{IsOfType, IsArgumentAt, AreArguments}
 use Rattle.fzn_posted.specs.Shapes.{last_of, IsLengthOfName, IsLength, HaveOneLength, HaveOneLengthAt, AreDifferent, HasDifferent, HasDifferentAt}
@@ -26,13 +24,6 @@ neither P not = (λ h. absurd cc, λ h. absurd (not h))
 
 pub both : (P : Type 0) → P → IsTrue true ↔ P
 both P p = (λ h. p, λ h. refl)
-
-pub names_none : (ds : List Declaration) (n : List ℕ) (s : Sort) → IsUndeclared ds n → IsTrue false ↔ Names ds n s
-names_none ds n s none = neither (Names ds n s) (λ h. none h.0 h.1)
-
-pub names_one : (ds : List Declaration) (n : List ℕ) (s : Sort) (d : Declaration) (r : Bool) → IsNamed ds n d → ((e : Declaration) → IsNamed ds n e → e ≡ d)
-    → IsTrue r ↔ (sort_of d ≡ s) → IsTrue r ↔ Names ds n s
-names_one ds n s d r is only told = (λ h. (d, is, told.0 h), λ h. told.1 (ap sort_of (sym (only h.0 h.1)) ∙ h.2))
 
 -- ---- lengths
 

@@ -12,7 +12,7 @@ use Rattle.fzn_scope.specs.declared.base.Base.TheVariants as bases
 use Rattle.fzn_scope.specs.declared.typing.Reading.{Reading}
 use Rattle.fzn_scope.specs.declared.typing.Reading.TheVariants as readings
 use Rattle.fzn_scope.specs.Sorts.{sort, Names}
-use Rattle.fzn_scope.specs.Typing.{Fits, AllFit}
+use Rattle.fzn_scope.specs.Typing.{IsScalar, AllFit}
 
 -- names of arrays of this base type serve here: those of parameters, and those of variables where variables may stand
 abbrev pub NamesArray : List Declaration → Reading → Base → List ℕ → Type 0
@@ -27,11 +27,6 @@ IsArrayName ds r base (basics.Name n) = NamesArray ds r base n.name
 IsArrayName ds r base (basics.Number z) = ⊥
 IsArrayName ds r base (basics.Range b) = ⊥
 IsArrayName ds r base (basics.Set zs) = ⊥
-
--- one literal or name that fits
-abbrev pub IsScalar : List Declaration → Reading → Base → Expression → Type 0
-IsScalar ds r base (expressions.Basic b) = Fits ds r base b
-IsScalar ds r base (expressions.List bs) = ⊥
 
 -- a list of literals and names that fit, or the name of an array
 abbrev pub IsArray : List Declaration → Reading → Base → Expression → Type 0

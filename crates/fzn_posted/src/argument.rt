@@ -1,27 +1,11 @@
 //! Which expressions are of the type that an argument is to have.
 ghost use Rattle.std.specs.Prelude.{◌≡◌, ◌↔◌, true, IsTrue};
-ghost use Rattle.fzn_scope.specs.Sorts.{sort, sort_of, Names};
-ghost use Rattle.fzn_posted.specs.Arguments.{NamesArray, IsArrayName, IsScalar, IsArray, IsOfType, IsArgumentAt, AreArguments};
+ghost use Rattle.fzn_scope.specs.Sorts.{sort};
+ghost use Rattle.fzn_posted.specs.Arguments.{NamesArray, IsArrayName, IsArray, IsOfType, IsArgumentAt, AreArguments};
 
-use fzn_floats::found;
-use fzn_scope::{Base, Reading, Scope, Sort, are_all, fits, sort_of};
-use fzn_syntax::{Basic, Declaration, Expression};
+use fzn_scope::{Base, Reading, Scope, Sort, are_all, is_scalar, names};
+use fzn_syntax::{Basic, Expression};
 use fzn_table::ArgumentType;
-
-fn is_sort(declaration: &Declaration, sort: Sort) -> bool
-    ensures { IsTrue result ↔ (sort_of declaration.now ≡ sort) }
-{
-    sort_of(declaration) == sort
-}
-
-fn names(scope: &Scope<'_>, name: &[u8], sort: Sort) -> bool
-    ensures { IsTrue result ↔ Names scope.now name.now sort }
-{
-    match found(scope, name) {
-        None => false,
-        Some(declaration) => is_sort(declaration, sort),
-    }
-}
 
 const fn array_of(base: Base, is_variable: bool) -> Sort
     ensures { result ≡ sort base is_variable true }
@@ -53,15 +37,6 @@ fn is_array_name(scope: &Scope<'_>, reading: Reading, base: Base, basic: &Basic)
         Basic::Number(_) => false,
         Basic::Range(_) => false,
         Basic::Set(_) => false,
-    }
-}
-
-fn is_scalar(scope: &Scope<'_>, reading: Reading, base: Base, expression: &Expression) -> bool
-    ensures { IsTrue result ↔ IsScalar scope.now reading base expression.now }
-{
-    match expression {
-        Expression::Basic(basic) => fits(scope, reading, base, basic),
-        Expression::List(_) => false,
     }
 }
 

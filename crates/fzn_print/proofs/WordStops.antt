@@ -16,19 +16,19 @@ name_range : (text : List ℕ) → (code (name_kind text) ≡ 0) ⊎ (16 ≤ cod
 name_range text =
     cond_both (bytes_eq text (codes "array")) _ _ (λ k. (code k ≡ 0) ⊎ (16 ≤ code k)) (λ _. inr (omega arith)) (λ _.
     cond_both (bytes_eq text (codes "bool")) _ _ (λ k. (code k ≡ 0) ⊎ (16 ≤ code k)) (λ _. inr (omega arith)) (λ _.
-    cond_both (bytes_eq text (codes "constraint")) _ _ (λ k. (code k ≡ 0) ⊎ (16 ≤ code k)) (λ _. inr (omega arith)) (λ _.
     cond_both (bytes_eq text (codes "false")) _ _ (λ k. (code k ≡ 0) ⊎ (16 ≤ code k)) (λ _. inr (omega arith)) (λ _.
     cond_both (bytes_eq text (codes "float")) _ _ (λ k. (code k ≡ 0) ⊎ (16 ≤ code k)) (λ _. inr (omega arith)) (λ _.
     cond_both (bytes_eq text (codes "int")) _ _ (λ k. (code k ≡ 0) ⊎ (16 ≤ code k)) (λ _. inr (omega arith)) (λ _.
-    cond_both (bytes_eq text (codes "maximize")) _ _ (λ k. (code k ≡ 0) ⊎ (16 ≤ code k)) (λ _. inr (omega arith)) (λ _.
-    cond_both (bytes_eq text (codes "minimize")) _ _ (λ k. (code k ≡ 0) ⊎ (16 ≤ code k)) (λ _. inr (omega arith)) (λ _.
     cond_both (bytes_eq text (codes "of")) _ _ (λ k. (code k ≡ 0) ⊎ (16 ≤ code k)) (λ _. inr (omega arith)) (λ _.
-    cond_both (bytes_eq text (codes "predicate")) _ _ (λ k. (code k ≡ 0) ⊎ (16 ≤ code k)) (λ _. inr (omega arith)) (λ _.
-    cond_both (bytes_eq text (codes "satisfy")) _ _ (λ k. (code k ≡ 0) ⊎ (16 ≤ code k)) (λ _. inr (omega arith)) (λ _.
     cond_both (bytes_eq text (codes "set")) _ _ (λ k. (code k ≡ 0) ⊎ (16 ≤ code k)) (λ _. inr (omega arith)) (λ _.
-    cond_both (bytes_eq text (codes "solve")) _ _ (λ k. (code k ≡ 0) ⊎ (16 ≤ code k)) (λ _. inr (omega arith)) (λ _.
     cond_both (bytes_eq text (codes "true")) _ _ (λ k. (code k ≡ 0) ⊎ (16 ≤ code k)) (λ _. inr (omega arith)) (λ _.
     cond_both (bytes_eq text (codes "var")) _ _ (λ k. (code k ≡ 0) ⊎ (16 ≤ code k)) (λ _. inr (omega arith)) (λ _.
+    cond_both (bytes_eq text (codes "constraint")) _ _ (λ k. (code k ≡ 0) ⊎ (16 ≤ code k)) (λ _. inr (omega arith)) (λ _.
+    cond_both (bytes_eq text (codes "maximize")) _ _ (λ k. (code k ≡ 0) ⊎ (16 ≤ code k)) (λ _. inr (omega arith)) (λ _.
+    cond_both (bytes_eq text (codes "minimize")) _ _ (λ k. (code k ≡ 0) ⊎ (16 ≤ code k)) (λ _. inr (omega arith)) (λ _.
+    cond_both (bytes_eq text (codes "predicate")) _ _ (λ k. (code k ≡ 0) ⊎ (16 ≤ code k)) (λ _. inr (omega arith)) (λ _.
+    cond_both (bytes_eq text (codes "satisfy")) _ _ (λ k. (code k ≡ 0) ⊎ (16 ≤ code k)) (λ _. inr (omega arith)) (λ _.
+    cond_both (bytes_eq text (codes "solve")) _ _ (λ k. (code k ≡ 0) ⊎ (16 ≤ code k)) (λ _. inr (omega arith)) (λ _.
     inl refl)))))))))))))))
 
 byte_40 : is_word 40 ≡ false

@@ -26,7 +26,7 @@ place_of ds n None h = undeclared ds n h
 place_of ds n (Some k) h = placed ds n k h
 
 -- a name is that of one declaration
-one_named : (ds : List Declaration) (n : List ℕ) (d e : Declaration) → AreDifferent (names_of ds) → IsNamed ds n d → IsNamed ds n e → e ≡ d
+pub one_named : (ds : List Declaration) (n : List ℕ) (d e : Declaration) → AreDifferent (names_of ds) → IsNamed ds n d → IsNamed ds n e → e ≡ d
 one_named ds n d e different one other =
     let same : other.0 ≡ one.0 = different other.0 one.0 n (named_at ds n other.0 e other.1 other.2) (named_at ds n one.0 d one.1 one.2) in
     let there : slice_get ds one.0 ≡ Some e = subst (λ k. slice_get ds k ≡ Some e) same other.1 in

@@ -4,6 +4,8 @@ use Rattle.std.specs.List.{list_all}
 use Rattle.fzn_syntax.specs.declared.declaration.Declaration.{Declaration}
 use Rattle.fzn_syntax.specs.declared.expression.Basic.{Basic}
 use Rattle.fzn_syntax.specs.declared.expression.Basic.TheVariants as basics
+use Rattle.fzn_syntax.specs.declared.expression.Expression.{Expression}
+use Rattle.fzn_syntax.specs.declared.expression.Expression.TheVariants as expressions
 use Rattle.fzn_scope.specs.declared.base.Base.{Base}
 use Rattle.fzn_scope.specs.declared.base.Base.TheVariants as bases
 use Rattle.fzn_scope.specs.declared.typing.Reading.{Reading}
@@ -24,6 +26,11 @@ Fits ds r base (basics.Name n) = NamesScalar ds r base n.name
 Fits ds r base (basics.Number z) = (base ≡ bases.Int) × (is_integer z ≡ true)
 Fits ds r base (basics.Range b) = (base ≡ bases.Set) × (is_integer b.lower ≡ true) × (is_integer b.upper ≡ true)
 Fits ds r base (basics.Set ns) = (base ≡ bases.Set) × (list_all is_integer ns ≡ true)
+
+-- the expression is one such literal or name, and no list
+abbrev pub IsScalar : List Declaration → Reading → Base → Expression → Type 0
+IsScalar ds r base (expressions.Basic b) = Fits ds r base b
+IsScalar ds r base (expressions.List bs) = ⊥
 
 -- each of them does
 abbrev pub AllFit : List Declaration → Reading → Base → List Basic → Type 0

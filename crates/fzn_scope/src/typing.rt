@@ -1,12 +1,12 @@
 //! Which expressions are constants, or variables, of a base type.
 ghost use Rattle.std.specs.Prelude.{◌≡◌, ◌↔◌, IsTrue};
 ghost use Rattle.fzn_scope.specs.Sorts.{sort_of, Names};
-ghost use Rattle.fzn_scope.specs.Typing.{NamesScalar, Fits, AllFit};
+ghost use Rattle.fzn_scope.specs.Typing.{NamesScalar, Fits, IsScalar, AllFit};
 
 use crate::base::{Base, are_integers, is_integer};
 use crate::scope::Scope;
 use crate::sort::{Sort, sort_of};
-use fzn_syntax::{Basic, Declaration};
+use fzn_syntax::{Basic, Declaration, Expression};
 
 /// What may stand at a place.
 #[derive(Clone, Copy, Debug, PartialEq, Eq, Drop)]
@@ -23,8 +23,8 @@ fn is_sort(declaration: &Declaration, sort: Sort) -> bool
     sort_of(declaration) == sort
 }
 
-// Whether the name is declared and is of this sort.
-fn names(scope: &Scope<'_>, name: &[u8], sort: Sort) -> bool
+/// Whether the name is declared and is of this sort.
+pub fn names(scope: &Scope<'_>, name: &[u8], sort: Sort) -> bool
     ensures { IsTrue result ↔ Names scope.now name.now sort }
 {
     // A name is that of one declaration.
@@ -77,6 +77,16 @@ pub fn fits(scope: &Scope<'_>, reading: Reading, base: Base, basic: &Basic) -> b
             base == Base::Set && is_integer(&bounds.lower) && is_integer(&bounds.upper)
         }
         Basic::Set(numbers) => base == Base::Set && are_integers(numbers.as_slice()),
+    }
+}
+
+/// Whether the expression is one such literal or name, and no list.
+pub fn is_scalar(scope: &Scope<'_>, reading: Reading, base: Base, expression: &Expression) -> bool
+    ensures { IsTrue result ↔ IsScalar scope.now reading base expression.now }
+{
+    match expression {
+        Expression::Basic(basic) => fits(scope, reading, base, basic),
+        Expression::List(_) => false,
     }
 }
 

@@ -42,25 +42,30 @@ code kinds.Solve = 28
 code kinds.True = 29
 code kinds.Var = 30
 
+-- a reserved word of items and goals is of its own kind
+abbrev pub item_kind : List ℕ → Kind
+item_kind text =
+    if bytes_eq text (codes "constraint") then kinds.Constraint
+    else if bytes_eq text (codes "maximize") then kinds.Maximize
+    else if bytes_eq text (codes "minimize") then kinds.Minimize
+    else if bytes_eq text (codes "predicate") then kinds.Predicate
+    else if bytes_eq text (codes "satisfy") then kinds.Satisfy
+    else if bytes_eq text (codes "solve") then kinds.Solve
+    else kinds.Name
+
 -- a reserved word is of its own kind, and every other name a name
 abbrev pub name_kind : List ℕ → Kind
 name_kind text =
     if bytes_eq text (codes "array") then kinds.Array
     else if bytes_eq text (codes "bool") then kinds.Bool
-    else if bytes_eq text (codes "constraint") then kinds.Constraint
     else if bytes_eq text (codes "false") then kinds.False
     else if bytes_eq text (codes "float") then kinds.FloatWord
     else if bytes_eq text (codes "int") then kinds.IntWord
-    else if bytes_eq text (codes "maximize") then kinds.Maximize
-    else if bytes_eq text (codes "minimize") then kinds.Minimize
     else if bytes_eq text (codes "of") then kinds.Of
-    else if bytes_eq text (codes "predicate") then kinds.Predicate
-    else if bytes_eq text (codes "satisfy") then kinds.Satisfy
     else if bytes_eq text (codes "set") then kinds.Set
-    else if bytes_eq text (codes "solve") then kinds.Solve
     else if bytes_eq text (codes "true") then kinds.True
     else if bytes_eq text (codes "var") then kinds.Var
-    else kinds.Name
+    else item_kind text
 
 -- a reserved word begins with one of these bytes
 abbrev pub leads_reserved : List ℕ → Bool

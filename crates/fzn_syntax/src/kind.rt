@@ -1,6 +1,6 @@
 //! The kinds of words.
 ghost use Rattle.std.specs.Prelude.{◌≡◌};
-ghost use Rattle.fzn_syntax.specs.Words.{code, leads_reserved, name_kind, kind_by};
+ghost use Rattle.fzn_syntax.specs.Words.{code, leads_reserved, item_kind, name_kind, kind_by};
 
 use fzn_lex::What;
 
@@ -59,6 +59,32 @@ fn leads_reserved(text: &[u8]) -> bool
     }
 }
 
+// The words of items and goals, and names.
+fn item_kind(text: &[u8]) -> Kind
+    ensures { result ≡ item_kind text.now }
+{
+    if text == b"constraint".as_slice() {
+        return Kind::Constraint;
+    }
+    if text == b"maximize".as_slice() {
+        return Kind::Maximize;
+    }
+    if text == b"minimize".as_slice() {
+        return Kind::Minimize;
+    }
+    if text == b"predicate".as_slice() {
+        return Kind::Predicate;
+    }
+    if text == b"satisfy".as_slice() {
+        return Kind::Satisfy;
+    }
+    if text == b"solve".as_slice() {
+        return Kind::Solve;
+    }
+    Kind::Name
+}
+
+// The words of types and values, and those above.
 pub(crate) fn name_kind(text: &[u8]) -> Kind
     ensures { result ≡ name_kind text.now }
 {
@@ -71,9 +97,6 @@ pub(crate) fn name_kind(text: &[u8]) -> Kind
     if text == b"bool".as_slice() {
         return Kind::Bool;
     }
-    if text == b"constraint".as_slice() {
-        return Kind::Constraint;
-    }
     if text == b"false".as_slice() {
         return Kind::False;
     }
@@ -83,26 +106,11 @@ pub(crate) fn name_kind(text: &[u8]) -> Kind
     if text == b"int".as_slice() {
         return Kind::IntWord;
     }
-    if text == b"maximize".as_slice() {
-        return Kind::Maximize;
-    }
-    if text == b"minimize".as_slice() {
-        return Kind::Minimize;
-    }
     if text == b"of".as_slice() {
         return Kind::Of;
     }
-    if text == b"predicate".as_slice() {
-        return Kind::Predicate;
-    }
-    if text == b"satisfy".as_slice() {
-        return Kind::Satisfy;
-    }
     if text == b"set".as_slice() {
         return Kind::Set;
-    }
-    if text == b"solve".as_slice() {
-        return Kind::Solve;
     }
     if text == b"true".as_slice() {
         return Kind::True;
@@ -110,7 +118,7 @@ pub(crate) fn name_kind(text: &[u8]) -> Kind
     if text == b"var".as_slice() {
         return Kind::Var;
     }
-    Kind::Name
+    item_kind(text)
 }
 
 #[tactic(auto, unfolding(crate::specs::Words::kind_by))]

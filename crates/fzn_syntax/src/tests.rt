@@ -140,6 +140,28 @@ fn brackets_nest_deep(rt: HostRuntime) -> Result<(), Fail> {
     Ok(())
 }
 
+// Whether the variable is declared from 1.5 up to 2.
+fn has_ends(variable: &Variable) -> bool {
+    match &variable.element {
+        VariableType::Plain(Element::Range(b)) => {
+            matches!(&b.lower, Number::Float(f) if f.as_bytes() == b"1.5".as_slice())
+                && matches!(&b.upper, Number::Int(2))
+        }
+        _ => false,
+    }
+}
+
+// Whether the annotation has five words, of which the fourth is quoted.
+fn has_words(annotation: &Annotation) -> bool {
+    match &annotation.arguments {
+        Some(words) => {
+            words.len() == 5
+                && matches!(words.as_slice().get(3), Some(w) if w.what == What::Text && w.text.as_bytes() == b"\"e\"".as_slice())
+        }
+        None => false,
+    }
+}
+
 #[test]
 fn trees_keep_what_is_written(rt: HostRuntime) -> Result<(), Fail> {
     let text = "var 1.5..2: ab :: cd(1,\"e\"); solve satisfy;";
@@ -150,20 +172,9 @@ fn trees_keep_what_is_written(rt: HostRuntime) -> Result<(), Fail> {
             matches!(declaration, Declaration::Variable(v) if v.name.at == 12 && v.annotations.len() == 1)
         );
         if let Declaration::Variable(v) = declaration {
-            if let VariableType::Plain(Element::Range(b)) = &v.element {
-                assert!(rt;
-                    matches!(&b.lower, Number::Float(f) if f.as_bytes() == b"1.5".as_slice())
-                );
-                assert!(rt; matches!(&b.upper, Number::Int(2)));
-            }
+            assert!(rt; has_ends(v));
             for annotation in v.annotations.as_slice() {
-                if let Some(words) = &annotation.arguments {
-                    assert_eq!(rt; words.len(), 5);
-                    let quoted = &words.as_slice()[3];
-                    assert!(rt;
-                        quoted.what == What::Text && quoted.text.as_bytes() == b"\"e\"".as_slice()
-                    );
-                }
+                assert!(rt; has_words(annotation));
             }
         }
     }

@@ -1,20 +1,16 @@
 -- Declarations by their names, and literals by the names that stand for them.
 use Rattle.std.proofs.Common.{◌≡◌, ℕ, Bool, true, false, List, slice_get, Option, None, Some, refl, sym, ◌∙◌, ap, subst}
-use Rattle.std.specs.Option.{option_map}
-use Rattle.std.proofs.lemmas.Option.{slice_get-map}
 use Rattle.fzn_syntax.specs.declared.declaration.Declaration.{Declaration}
 use Rattle.fzn_syntax.specs.declared.expression.Basic.{Basic}
 use Rattle.fzn_syntax.specs.declared.expression.Basic.TheVariants as basics
 use Rattle.fzn_syntax.specs.declared.expression.Expression.{Expression}
 use Rattle.fzn_syntax.specs.declared.expression.Expression.TheVariants as expressions
 use Rattle.fzn_scope.specs.Names.{name_of, names_of, AreDifferent, IsNamed, IsPlaced}
+use Rattle.fzn_scope.proofs.Places.{named_at, one_named}
 use Rattle.fzn_values.specs.declared.literal.Literal.{Literal}
 use Rattle.fzn_values.specs.declared.literal.Literal.TheVariants as literals
 use Rattle.fzn_values.specs.Literals.{is_number, is_literal, name_in, named_by, value_for, StandsFor, itself, through}
 use Rattle.fzn_values.specs.Links.{NameStandsFor}
-
-named_at : (ds : List Declaration) (n : List ℕ) (k : ℕ) (d : Declaration) → slice_get ds k ≡ Some d → name_of d ≡ n → slice_get (names_of ds) k ≡ Some n
-named_at ds n k d at is = slice_get-map name_of ds k ∙ ap (option_map name_of) at ∙ ap Some is
 
 pub some_same : {A : Type 0} → (x y : A) → Some x ≡ Some y → x ≡ y
 some_same x y e = cc
@@ -22,12 +18,6 @@ some_same x y e = cc
 -- a name is that of one declaration, at one place
 pub one_place : (ds : List Declaration) (n : List ℕ) (j k : ℕ) (d e : Declaration) → AreDifferent (names_of ds) → slice_get ds j ≡ Some d → name_of d ≡ n → slice_get ds k ≡ Some e → name_of e ≡ n → j ≡ k
 one_place ds n j k d e different at is at2 is2 = different j k n (named_at ds n j d at is) (named_at ds n k e at2 is2)
-
-pub one_named : (ds : List Declaration) (n : List ℕ) (d e : Declaration) → AreDifferent (names_of ds) → IsNamed ds n d → IsNamed ds n e → d ≡ e
-one_named ds n d e different one other =
-    let same : one.0 ≡ other.0 = one_place ds n one.0 other.0 d e different one.1 one.2 other.1 other.2 in
-    let there : slice_get ds other.0 ≡ Some d = subst (λ k. slice_get ds k ≡ Some d) same one.1 in
-    some_same d e (sym there ∙ other.1)
 
 number_unnamed : (b : Basic) (n : List ℕ) → is_number b ≡ true → name_in b ≡ Some n → ⊥
 number_unnamed basics.True n is named = absurd cc
@@ -66,6 +56,6 @@ module _ (ds : List Declaration) (literal : Literal) where
   one_literal different e l m (itself is same) (through n d v named is2 has more) = absurd (literal_unnamed literal e n is named)
   one_literal different e l m (through n d v named is has more) other =
       let h = by_name e m n named other in
-      let same : d ≡ h.0 = one_named ds n d h.0 different is h.2 in
+      let same : d ≡ h.0 = one_named ds n h.0 d different h.2 is in
       let values : v ≡ h.1 = some_same v h.1 (sym has ∙ ap (value_for literal) same ∙ h.3) in
       one_literal different v l m more (subst (λ x. StandsFor ds literal x m) (sym values) h.4)

@@ -14,7 +14,7 @@ use Rattle.fzn_values.specs.declared.literal.Literal.{Literal}
 use Rattle.fzn_values.specs.declared.literal.Literal.TheVariants as literals
 use Rattle.fzn_values.specs.Literals.{is_number, is_literal, name_in, named_by, value_for, StandsFor, itself}
 use Rattle.fzn_values.specs.Links.{IsValueLink, IsLiteralOf, NameStandsFor, NamesListAt}
-use Rattle.fzn_values.specs.Worth.{number, IsIntOf, IsListOf, IsListAt, AreInts, AreIntsOf, IsIntegerVariable, IsVariableOf, IsEntryOf}
+use Rattle.fzn_values.specs.Worth.{number, IsIntOf, IsListOf, IsListAt, AreInts, AreIntsOf, IsIntegerVariable, NamesVariableAt, IsVariableOf, IsEntryOf}
 use Rattle.fzn_values.proofs.Named.{some_same, one_place, stands_literal, written, by_name, of_name, one_literal}
 
 pub copied_some : {X : Type 0} (r : Option (Bor X)) (N : Type 0) (P : X → Type 0) (x : X) → option_copied r ≡ Some x → P x → MatchOption r N (λ y. P y.now)
@@ -116,14 +116,19 @@ no_name ds literal n none l h = none h.0 h.2
 
 -- ---- integer variables
 
-pub no_variable : (ds : List Declaration) (b : Basic) (n : List ℕ) → Some n ≡ name_in b → IsUndeclared ds n → (k : ℕ) → IsVariableOf ds b k → ⊥
-no_variable ds b n is none k h = none h.2.0 (k, h.2.1, h.2.2 ∙ sym (some_same n h.0 (is ∙ h.1)))
+pub no_variable : (ds : List Declaration) (n : List ℕ) → IsUndeclared ds n → (k : ℕ) → NamesVariableAt ds n k → ⊥
+no_variable ds n none k h = none h.0.0 (k, h.0.1, h.0.2)
 
-pub other_variable : (ds : List Declaration) (b : Basic) (n : List ℕ) (place : ℕ) → AreDifferent (names_of ds) → Some n ≡ name_in b → IsPlaced ds n place → (IsIntegerVariable ds place → ⊥) → (k : ℕ) → IsVariableOf ds b k → ⊥
-other_variable ds b n place different is placed not k h =
-    let same_name : h.0 ≡ n = sym (some_same n h.0 (is ∙ h.1)) in
-    let same : k ≡ place = one_place ds n k place h.2.0 placed.0 different h.2.1 (h.2.2 ∙ same_name) placed.1 placed.2 in
-    not (subst (λ i. IsIntegerVariable ds i) same h.3)
+pub other_variable : (ds : List Declaration) (n : List ℕ) (place : ℕ) → AreDifferent (names_of ds) → IsPlaced ds n place → (IsIntegerVariable ds place → ⊥) → (k : ℕ) → NamesVariableAt ds n k → ⊥
+other_variable ds n place different placed not k h =
+    let same : k ≡ place = one_place ds n k place h.0.0 placed.0 different h.0.1 h.0.2 placed.1 placed.2 in
+    not (subst (λ i. IsIntegerVariable ds i) same h.1)
+
+-- an expression that is a name is told by the name
+pub variable_by_name : (ds : List Declaration) (b : Basic) (n : List ℕ) (r : Option ℕ) → Some n ≡ name_in b → MatchOption r ((k : ℕ) → NamesVariableAt ds n k → ⊥) (NamesVariableAt ds n)
+    → MatchOption r ((k : ℕ) → IsVariableOf ds b k → ⊥) (IsVariableOf ds b)
+variable_by_name ds b n None is none = λ k h. none k (subst (λ m. NamesVariableAt ds m k) (sym (some_same n h.0 (is ∙ h.1))) h.2)
+variable_by_name ds b n (Some k) is h = (n, sym is, h)
 
 -- ---- integers one by one
 

@@ -45,9 +45,13 @@ AreIntsOf ds e zs = (bs : List Basic) × IsListOf ds e bs × AreInts ds bs zs
 abbrev pub IsIntegerVariable : List Declaration → ℕ → Type 0
 IsIntegerVariable ds k = (d : Declaration) × (slice_get ds k ≡ Some d) × (sort_of d ≡ sort bases.Int true false)
 
+-- the name is that of the integer variable which is declared at this place
+abbrev pub NamesVariableAt : List Declaration → List ℕ → ℕ → Type 0
+NamesVariableAt ds n k = IsPlaced ds n k × IsIntegerVariable ds k
+
 -- the expression names the integer variable that is declared at this place
 abbrev pub IsVariableOf : List Declaration → Basic → ℕ → Type 0
-IsVariableOf ds b k = (n : List ℕ) × (name_in b ≡ Some n) × IsPlaced ds n k × IsIntegerVariable ds k
+IsVariableOf ds b k = (n : List ℕ) × (name_in b ≡ Some n) × NamesVariableAt ds n k
 
 -- an integer, or the integer variable that is declared at this place
 abbrev pub IsEntryOf : List Declaration → Basic → Entry → Type 0

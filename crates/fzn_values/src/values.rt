@@ -7,7 +7,7 @@ ghost use Rattle.fzn_scope.specs.Names.{names_of, AreDifferent};
 ghost use Rattle.fzn_values.specs.declared.entry.Entry.{Entry as EntryOf};
 ghost use Rattle.fzn_values.specs.declared.literal.Literal.TheVariants as literals;
 ghost use Rattle.fzn_values.specs.Links.{AreLiterals, IsLiteralOf, NameStandsFor, NamesListAt};
-ghost use Rattle.fzn_values.specs.Worth.{IsIntOf, IsListOf, IsListAt, AreInts, AreIntsOf, IsEntryOf, IsVariableOf, IsIntegerVariable, HasOneInteger, HasOneList};
+ghost use Rattle.fzn_values.specs.Worth.{IsIntOf, IsListOf, IsListAt, AreInts, AreIntsOf, IsEntryOf, IsVariableOf, NamesVariableAt, IsIntegerVariable, HasOneInteger, HasOneList};
 
 use crate::entry::Entry;
 use crate::link::links_of;
@@ -176,16 +176,22 @@ impl<'a> Values<'a> {
     {
         match name_in(basic) {
             None => None,
-            Some(name) => match self.scope.place(name) {
-                None => None,
-                Some(place) => {
-                    if self.is_variable(place) {
-                        Some(place)
-                    } else {
-                        None
-                    }
+            Some(name) => self.variable_named(name),
+        }
+    }
+
+    fn variable_named(&self, name: &[u8]) -> Option<usize>
+        ensures { MatchOption result ((k : ℕ) → NamesVariableAt self.now name.now k → ⊥) (NamesVariableAt self.now name.now) }
+    {
+        match self.scope.place(name) {
+            None => None,
+            Some(place) => {
+                if self.is_variable(place) {
+                    Some(place)
+                } else {
+                    None
                 }
-            },
+            }
         }
     }
 

@@ -1,15 +1,5 @@
-use Rattle.std.proofs.Common.{◌≡◌, ℕ, List, slice_get, Option, None, Some, sym, subst}
-use Rattle.fzn_syntax.specs.declared.declaration.Declaration.{Declaration}
-use Rattle.fzn_scope.specs.Names.{names_of, AreDifferent, IsPlaced, IsUndeclared}
-use Rattle.fzn_values.proofs.Told.{no_variable, other_variable}
+use Rattle.fzn_values.proofs.Told.{variable_by_name}
 use Rattle.fzn_values.proofs.values.Values.variable_of.Goals as goal
 
-pub returns-in-None-place : goal.returns-in-None-place
-returns-in-None-place c =
-    no_variable c.args.self.now c.args.basic.now c.in-Some.name.now c.in-Some.ensures (subst (λ (ds : List Declaration). IsUndeclared ds c.in-Some.name.now) c.self.view_is c.in-None-place.ensures)
-
-pub returns-else-is_variable : goal.returns-else-is_variable
-returns-else-is_variable c =
-    let p : IsPlaced c.args.self.now c.in-Some.name.now c.in-Some-place.place = subst (λ (ds : List Declaration). IsPlaced ds c.in-Some.name.now c.in-Some-place.place) c.self.view_is c.in-Some-place.ensures in
-    let different : AreDifferent (names_of c.args.self.now) = subst (λ (ds : List Declaration). AreDifferent (names_of ds)) c.self.view_is c.self.invariant.2 in
-    other_variable c.args.self.now c.args.basic.now c.in-Some.name.now c.in-Some-place.place different c.in-Some.ensures p (λ v. let t = c.is_variable.ensures.1 v in let f = c.if-is_variable.false in absurd cc)
+pub returns-in-Some : goal.returns-in-Some
+returns-in-Some c = variable_by_name c.args.self.now c.args.basic.now c.in-Some.name.now c.variable_named.result c.in-Some.ensures c.variable_named.ensures
