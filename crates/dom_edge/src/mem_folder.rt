@@ -20,6 +20,7 @@ impl MemFolder {
     /// A folder that has no file.
     pub fn new(alloc: Global) -> Self
         ensures files { (name : List ℕ) → ⟦<MemFolder as Folder>⟧.bytes result name ≡ Some None }
+        ensures planned { failing_reads result ≡ [] }
         ensures faults { ⟦<MemFolder as Folder>⟧.read_faults result ≡ 0 }
     {
         MemFolder {
@@ -34,6 +35,7 @@ impl MemFolder {
             (⟦<MemFolder as Folder>⟧.bytes self.new) name.now bytes.now) }
         ensures err { OnErr result (⟦<MemFolder as Folder>⟧.bytes self.new
             ≡ ⟦<MemFolder as Folder>⟧.bytes self.old) }
+        ensures planned { failing_reads self.new ≡ failing_reads self.old }
         ensures faults { ⟦<MemFolder as Folder>⟧.read_faults self.new
             ≡ ⟦<MemFolder as Folder>⟧.read_faults self.old }
     {
@@ -43,6 +45,7 @@ impl MemFolder {
     /// Makes the read of this number fail. The first read of the folder has the number 1.
     pub fn fail_read(&mut self, call: u64) -> Result<(), AllocError>
         ensures planned { OnOk result (failing_reads self.new ≡ failing_reads self.old ++ call ∷ []) }
+        ensures unplanned { OnErr result (failing_reads self.new ≡ failing_reads self.old) }
         ensures files { ⟦<MemFolder as Folder>⟧.bytes self.new
             ≡ ⟦<MemFolder as Folder>⟧.bytes self.old }
         ensures faults { ⟦<MemFolder as Folder>⟧.read_faults self.new

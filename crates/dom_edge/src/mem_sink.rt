@@ -12,12 +12,14 @@ pub struct MemSink {
 }
 
 impl MemSink {
-    ghost use Rattle.std.specs.Prelude.{◌≡◌, ◌∷◌, ◌++◌, [], Some, OnOk};
+    ghost use Rattle.std.specs.Prelude.{◌≡◌, ◌∷◌, ◌++◌, [], Some, OnOk, OnErr};
     ghost use Rattle.dom_edge.specs.Planned.{failing_writes};
 
     /// A sink to which nothing was written.
     pub fn new(alloc: Global) -> Self
         ensures bytes { ⟦<MemSink as Sink>⟧.bytes result ≡ Some [] }
+        ensures spare { ⟦<MemSink as Sink>⟧.spare result ≡ 0 }
+        ensures planned { failing_writes result ≡ [] }
         ensures faults { ⟦<MemSink as Sink>⟧.faults result ≡ 0 }
     {
         MemSink {
@@ -36,6 +38,7 @@ impl MemSink {
     /// Makes the write of this number fail. The first write has the number 1.
     pub fn fail_write(&mut self, call: u64) -> Result<(), AllocError>
         ensures planned { OnOk result (failing_writes self.new ≡ failing_writes self.old ++ call ∷ []) }
+        ensures unplanned { OnErr result (failing_writes self.new ≡ failing_writes self.old) }
         ensures bytes { ⟦<MemSink as Sink>⟧.bytes self.new ≡ ⟦<MemSink as Sink>⟧.bytes self.old }
         ensures spare { ⟦<MemSink as Sink>⟧.spare self.new ≡ ⟦<MemSink as Sink>⟧.spare self.old }
         ensures faults { ⟦<MemSink as Sink>⟧.faults self.new

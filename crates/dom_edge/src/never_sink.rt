@@ -14,7 +14,8 @@ impl NeverSink {
 
     /// A sink to which nothing was written.
     pub fn new(alloc: Global) -> Self
-        ensures { ⟦<NeverSink as Sink>⟧.bytes result ≡ Some [] }
+        ensures bytes { ⟦<NeverSink as Sink>⟧.bytes result ≡ Some [] }
+        ensures spare { ⟦<NeverSink as Sink>⟧.spare result ≡ 0 }
     {
         NeverSink {
             buffer: Buffer::new(alloc),

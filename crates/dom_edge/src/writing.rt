@@ -11,6 +11,7 @@ pub fn write_whole<S: Sink>(sink: &mut S, text: &[u8]) -> Result<(), Failed>
     ensures ok { OnOk result (Gains (S.bytes sink.old) (S.bytes sink.new) text.now) }
     ensures room { OnOk result (S.spare sink.new + length text.now ≡ S.spare sink.old) }
     ensures failed { OnErr result (GainsPrefix (S.bytes sink.old) (S.bytes sink.new) text.now) }
+    ensures left { OnErr result (S.spare sink.new ≤ S.spare sink.old) }
     ensures cause { HasCause (S.faults sink.old) (S.faults sink.new) result }
     ensures empty { length text.now ≡ 0 → sink.new ≡ sink.old }
 {
