@@ -88,6 +88,7 @@ fn fix(cells: &mut Cells, at: u32, value: i64) -> bool
 }
 
 /// Whether the sum gives the box up.
+#[tactic(auto, using(crate::proofs::DigitLaws::digits_fit))]
 fn is_refuted(sum: &Linear, cells: &Cells) -> bool
     requires sum { IsDigitSum 1000 sum.now }
     requires starts { AreDigits 1000 cells.now.starts }
@@ -98,6 +99,7 @@ fn is_refuted(sum: &Linear, cells: &Cells) -> bool
 }
 
 /// Asks for the first implied end, and where there is one, why.
+#[tactic(auto, using(crate::proofs::DigitLaws::digits_fit))]
 fn ask(sum: &Linear, cells: &Cells, out: &mut Clause, counts: &mut Counts) -> Result<(), AllocError>
     requires sum { IsDigitSum 1000 sum.now }
     requires starts { AreDigits 1000 cells.now.starts }
