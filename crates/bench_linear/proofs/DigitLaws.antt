@@ -1,9 +1,7 @@
 -- Sums over digits fit, also over what cutting leaves of the digits.
-use Rattle.std.proofs.Common.{◌≡◌, ℕ, ◌+◌, ◌*◌, ◌<◌, ◌≤◌, true, ◌&&◌, List, [], ◌∷◌, ◌++◌, length, take, ℤ, pos, ◌*ℤ◌, ◌≤ℤ◌, int_le, sym, ◌∙◌, ap, subst, arith, inl, inr}
+use Rattle.std.proofs.Common.{◌≡◌, ℕ, ◌*◌, ◌<◌, ◌≤◌, true, ◌&&◌, List, [], ◌∷◌, length, ℤ, pos, ◌*ℤ◌, ◌≤ℤ◌, int_le, sym, ◌∙◌, ap, subst, arith, inl, inr}
 use Rattle.std.proofs.Math.Nat.{mul-le-mul_left}
-use Rattle.std.proofs.Math.Seq.{take-append_seam}
-use Rattle.std.proofs.lemmas.Int.{ints, unsigned_abs-mul}
-use Rattle.std.proofs.lemmas.List.{append-nil, append_assoc}
+use Rattle.std.proofs.lemmas.Int.{unsigned_abs-mul}
 use Rattle.std.proofs.lemmas.List.Elements.{All-head, All-tail}
 use Rattle.std.specs.Prelude.{unsigned_abs}
 use Rattle.std.specs.List.{All}
@@ -11,15 +9,11 @@ use Rattle.dom_core.specs.Ends.{scaled_ends}
 use Rattle.dom_core.specs.Rises.{range_of}
 use Rattle.dom_core.specs.declared.arg.Arg.{Arg}
 use Rattle.dom_core.specs.declared.arg.Arg.TheVariants.{Var, Const}
-use Rattle.dom_core.specs.declared.literal.Literal.{Literal}
-use Rattle.dom_core.specs.declared.literal.Rel.TheVariants.{Eq}
 use Rattle.dom_core.proofs.ProductLaws.{scaled_low, scaled_high}
-use Rattle.dom_core.proofs.RisesLaws.{range-among, range-first, range-last}
+use Rattle.dom_core.proofs.RisesLaws.{range-among}
 use Rattle.dom_core.proofs.TestLaws.{le_true, and_first, and_second}
-use Rattle.dom_cells.specs.Box.{Trailed, start_at, cell_of, cut_all, IsBox, IsNarrowed}
-use Rattle.dom_cells.specs.Cell.{lo_of, hi_of, has_of, Suits, IsCell}
-use Rattle.dom_cells.specs.declared.narrowed.Narrowed.{Narrowed}
-use Rattle.dom_cells.specs.declared.narrowed.Narrowed.TheVariants.{Same, Changed, Emptied}
+use Rattle.dom_cells.specs.Box.{Trailed, start_at, cell_of, IsBox}
+use Rattle.dom_cells.specs.Cell.{lo_of, hi_of, has_of, IsCell}
 use Rattle.dom_cells.specs.declared.start.Start.{Start}
 use Rattle.dom_cells.specs.declared.start.Start.TheVariants.{Values, Span}
 use Rattle.dom_cells.proofs.BoxLaws.{sane-cell, sane-ends}
@@ -31,7 +25,7 @@ use Rattle.kind_linear.specs.LinearLaws.{form-fits}
 use Rattle.kind_linear.specs.Sum.{arg_ends, size_of, magnitude, terms_of, vars_of}
 use Rattle.kind_linear.specs.SumLaws.{each_distinct}
 use Rattle.kind_linear.specs.declared.relation.Relation.{Relation}
-use Rattle.bench_linear.specs.Digits.{digit_ends, AreDigits, IsDigitSum, Extends}
+use Rattle.bench_linear.specs.Digits.{digit_ends, AreDigits, IsDigitSum}
 
 -- ---- sums over all digits
 
@@ -96,9 +90,6 @@ digit_sum_is cs xs r b few small vars = record {
 pub digits_at : (n v : ℕ) (starts : List Start) → AreDigits n starts → v < n → start_at starts v ≡ Values (range_of (pos 0) (pos 9))
 digits_at n v starts digits lt = digits.each v (Span (pos 0) (pos 0)) (omega (arith, digits.width))
 
-pub digits_suit : (n v : ℕ) (starts : List Start) → AreDigits n starts → v < n → Suits (start_at starts v) Eq
-digits_suit n v starts digits lt = subst (λ (s : Start). Suits s Eq) (sym (digits_at n v starts digits lt)) tt
-
 is_digit : (n v : ℕ) (m : Trailed) (x : ℤ) → AreDigits n m.starts → IsBox m → v < n → has_of (cell_of m v) x ≡ true → (pos 0 ≤ℤ x) × (x ≤ℤ pos 9)
 is_digit n v m x digits b lt h =
     let among : (int_le (pos 0) x && int_le x (pos 9)) ≡ true =
@@ -128,46 +119,3 @@ digits_fit n k m sum digits b =
 
 pub digits_below : (n : ℕ) (k : Form) (starts : List Start) → IsDigitSum n k → AreDigits n starts → AllBelow (length starts) (form_vars k)
 digits_below n k starts sum digits = subst (λ (w : ℕ). AllBelow w (form_vars k)) (sym digits.width) sum.below
-
--- the ends of a cell that was not cut
-pub whole_ends : (n v : ℕ) (m : Trailed) → AreDigits n m.starts → v < n → m.literals ≡ [] → (lo_of (cell_of m v) ≡ pos 0) × (hi_of (cell_of m v) ≡ pos 9)
-whole_ends n v m digits lt none =
-    let same : cell_of m v ≡ Values (range_of (pos 0) (pos 9)) =
-    ap (λ (ls : List Literal). cut_all v (start_at m.starts v) ls) none ∙ digits_at n v m.starts digits lt in
-    (ap lo_of same ∙ range-first (pos 0) (pos 9) (omega (arith, ints)), ap hi_of same ∙ range-last (pos 0) (pos 9) (omega (arith, ints)))
-
--- ---- literals that were added
-
-pub extends_same : (ls : List Literal) → Extends ls ls
-extends_same ls = record { more = []; is = sym (append-nil ls) }
-
-pub extends_more : (a b c : List Literal) → Extends a b → Extends b c → Extends a c
-extends_more a b c first second = record {
-  more = first.more ++ second.more;
-  is = second.is ∙ ap (λ (ls : List Literal). ls ++ second.more) first.is ∙ append_assoc a first.more second.more;
-}
-
-pub taken_back : (old new : List Literal) → Extends old new → take (length old) new ≡ old
-taken_back old new e = ap (take (length old)) e.is ∙ take-append_seam old e.more
-
--- what cutting changes at most
-pub record Grows (old new : Trailed) : Type 0 where
-  pub starts : new.starts ≡ old.starts
-  pub literals : Extends old.literals new.literals
-  pub room : old.spare ≤ new.spare + 1
-
-grows_same : (old new : Trailed) → new ≡ old → Grows old new
-grows_same old new e = record {
-  starts = ap (λ (m : Trailed). m.starts) e;
-  literals = subst (λ (m : Trailed). Extends old.literals m.literals) (sym e) (extends_same old.literals);
-  room = (let s : new.spare ≡ old.spare = ap (λ (m : Trailed). m.spare) e in omega arith);
-}
-
-pub narrowed_grows : (old : Trailed) (l : Literal) (r : Narrowed) (new : Trailed) → IsNarrowed old l r new → Grows old new
-narrowed_grows old l Same new h = grows_same old new h.1
-narrowed_grows old l Emptied new h = grows_same old new h.1
-narrowed_grows old l Changed new h = record {
-  starts = h.2.starts;
-  literals = record { more = l ∷ []; is = h.2.literals };
-  room = (let s : new.spare + 1 ≡ old.spare = h.2.spare in omega arith);
-}

@@ -1,9 +1,10 @@
 -- Sums of variables whose values are digits.
-use Rattle.std.specs.Prelude.{◌≡◌, ◌++◌, List, length, ℕ, pos}
+use Rattle.std.specs.Prelude.{◌≡◌, ◌+◌, ◌++◌, List, length, ℕ, pos}
 use Rattle.std.specs.List.{All}
 use Rattle.dom_core.specs.Ends.{Ends}
 use Rattle.dom_core.specs.Rises.{range_of}
 use Rattle.dom_core.specs.declared.literal.Literal.{Literal}
+use Rattle.dom_cells.specs.Box.{Trailed}
 use Rattle.dom_cells.specs.declared.start.Start.{Start}
 use Rattle.dom_cells.specs.declared.start.Start.TheVariants.{Values}
 use Rattle.kind_law.specs.Laws.{AllBelow}
@@ -26,6 +27,10 @@ pub record AreDigits (n : ℕ) (starts : List Start) : Type 0 where
 pub record IsDigitSum (n : ℕ) (k : Form) : Type 0 where
   pub below : AllBelow n (form_vars k)
   pub fits : FormFits k (λ v. digit_ends)
+
+-- for how many literals there is room, with those in force
+abbrev pub room_of : Trailed → ℕ
+room_of m = m.spare + length m.literals
 
 -- the list has the other one at its start
 pub record Extends (old new : List Literal) : Type 0 where

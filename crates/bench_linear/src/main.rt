@@ -7,7 +7,7 @@ mod digits;
 mod round;
 
 use counts::Counts;
-use digits::{digit_starts, digit_sum};
+use digits::{WIDTH, digit_starts, digit_sum};
 use dom_cells::Cells;
 use dom_core::{Clause, DomainError};
 use round::{go_round, is_whole};
@@ -33,6 +33,7 @@ fn counted(alloc: Global) -> Result<Counts, DomainError> {
     let sum = digit_sum(alloc)?;
     let starts = digit_starts(alloc)?;
     let mut cells = Cells::new(alloc, starts.as_slice())?;
+    cells.reserve(WIDTH as usize)?;
     let mut out = Clause::new(alloc);
     let mut counts = Counts::default();
     for number in 0..ROUNDS {

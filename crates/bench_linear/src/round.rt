@@ -1,6 +1,6 @@
 //! A round: the variables of a sum are fixed one after the other, and all is taken back.
 ghost use Rattle.std.specs.Prelude.{◌≡◌, ◌≤◌, ◌<◌, ◌+◌, [], false, true, OnOk};
-ghost use Rattle.bench_linear.specs.Digits.{AreDigits, IsDigitSum, Extends};
+ghost use Rattle.bench_linear.specs.Digits.{AreDigits, IsDigitSum, Extends, room_of};
 ghost use Rattle.dom_cells.specs.Box.{cell_of};
 ghost use Rattle.kind_linear.specs.Linear.{form_refuted};
 
@@ -26,10 +26,11 @@ pub(crate) fn go_round(
     requires number { number < 1000 }
     requires sum { IsDigitSum 1000 sum.now }
     requires starts { AreDigits 1000 cells.old.starts }
+    requires room { 1000 ≤ cells.old.spare }
     ensures starts { OnOk result (cells.new.starts ≡ cells.old.starts) }
     ensures literals { OnOk result (cells.new.literals ≡ cells.old.literals) }
+    ensures room { OnOk result (cells.new.spare ≡ cells.old.spare) }
 {
-    cells.reserve(WIDTH as usize)?;
     let mark = cells.mark();
     fix_all(sum, cells, number, out, counts)?;
     cells.undo(mark);
@@ -51,6 +52,7 @@ fn fix_all(
     requires room { 1000 ≤ cells.old.spare }
     ensures starts { OnOk result (cells.new.starts ≡ cells.old.starts) }
     ensures literals { OnOk result (Extends cells.old.literals cells.new.literals) }
+    ensures room { OnOk result (room_of cells.new ≡ room_of cells.old) }
 {
     for at in 0..WIDTH {
         if fix(cells, at, digit(at, number)) {
@@ -74,7 +76,8 @@ fn fix(cells: &mut Cells, at: u32, value: i64) -> bool
     requires room { 0 < cells.old.spare }
     ensures starts { cells.new.starts ≡ cells.old.starts }
     ensures literals { Extends cells.old.literals cells.new.literals }
-    ensures room { cells.old.spare ≤ cells.new.spare + 1 }
+    ensures spare { cells.old.spare ≤ cells.new.spare + 1 }
+    ensures room { room_of cells.new ≡ room_of cells.old }
 {
     let narrowed = cells.narrow(Literal {
         var: VarId(at),
@@ -85,6 +88,7 @@ fn fix(cells: &mut Cells, at: u32, value: i64) -> bool
 }
 
 /// Whether the sum gives the box up.
+#[tactic(auto, using(crate::proofs::DigitLaws::digits_fit))]
 fn is_refuted(sum: &Linear, cells: &Cells) -> bool
     requires sum { IsDigitSum 1000 sum.now }
     requires starts { AreDigits 1000 cells.now.starts }
@@ -95,6 +99,7 @@ fn is_refuted(sum: &Linear, cells: &Cells) -> bool
 }
 
 /// Asks for the first implied end, and where there is one, why.
+#[tactic(auto, using(crate::proofs::DigitLaws::digits_fit))]
 fn ask(sum: &Linear, cells: &Cells, out: &mut Clause, counts: &mut Counts) -> Result<(), AllocError>
     requires sum { IsDigitSum 1000 sum.now }
     requires starts { AreDigits 1000 cells.now.starts }

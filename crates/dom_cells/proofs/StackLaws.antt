@@ -352,8 +352,8 @@ undone-more a b c first next =
     ap length next.literals ∙ length-take-le (length b.literals - 1) b.literals (omega arith) in
     let ls : c.literals ≡ take (length b.literals - 1) a.literals =
     next.literals ∙ ap (take (length b.literals - 1)) first.literals ∙ take-take (length b.literals - 1) (length b.literals) a.literals (omega arith) in
-    let p : a.spare ≤ b.spare = first.spare in
-    let q : b.spare ≤ c.spare = next.spare in
+    let p : b.spare + length b.literals ≡ a.spare + length a.literals = first.spare in
+    let q : c.spare + (length b.literals - 1) ≡ b.spare + length b.literals = next.spare in
     record { starts = next.starts ∙ first.starts; literals = ls ∙ ap (λ (k : ℕ). take k a.literals) (sym n); spare = omega arith }
 
 -- a step back leaves one literal fewer

@@ -64,11 +64,11 @@ IsNarrowed old l Same new = IsHeld (cell_of old l.var.0) l × (new ≡ old)
 IsNarrowed old l Emptied new = IsFalse (cell_of old l.var.0) l × (new ≡ old)
 IsNarrowed old l Changed new = IsPossible (cell_of old l.var.0) l × CanFail (cell_of old l.var.0) l × Cuts old l new
 
--- the box as it was after so many literals
+-- the box as it was after so many literals, with the room of those that were taken back
 pub record Undone (old : Trailed) (count : ℕ) (new : Trailed) : Type 0 where
   pub starts : new.starts ≡ old.starts
   pub literals : new.literals ≡ take count old.literals
-  pub spare : old.spare ≤ new.spare
+  pub spare : new.spare + count ≡ old.spare + length old.literals
 
 -- there is room for so many changes, and nothing else changed
 pub record HasRoom (old : Trailed) (more : ℕ) (new : Trailed) : Type 0 where

@@ -1,4 +1,4 @@
-use Rattle.std.proofs.Common.{◌≡◌, []}
+use Rattle.std.proofs.Common.{◌≡◌, ◌≤◌, []}
 use Rattle.bench_linear.specs.Digits.{AreDigits}
 use Rattle.bench_linear.proofs.counted.Given as goal
 
@@ -6,4 +6,5 @@ abbrev pub invariant-loop-number : goal.invariant-loop-number
 invariant-loop-number l = record {
   digits : AreDigits 1000 l.cells.starts;
   none : l.cells.literals ≡ [];
+  room : 1000 ≤ l.cells.spare;
 }

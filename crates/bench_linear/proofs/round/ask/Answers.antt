@@ -3,12 +3,8 @@ use Rattle.dom_cells.specs.Box.{cell_of}
 use Rattle.kind_law.specs.Next.{IsNext}
 use Rattle.kind_law.proofs.ReasonLaws.{next_cause}
 use Rattle.kind_linear.specs.Linear.{form_vars, form_refuted}
-use Rattle.bench_linear.proofs.DigitLaws.{digits_fit, digits_below}
+use Rattle.bench_linear.proofs.DigitLaws.{digits_below}
 use Rattle.bench_linear.proofs.round.ask.Goals as goal
-
-pub next-implied-requires-clause-fits : goal.next-implied-requires-clause-fits
-next-implied-requires-clause-fits c =
-    digits_fit 1000 c.args.sum.now c.args.cells.now c.requires.sum c.requires.starts c.width-width.ensures.sound
 
 pub reason-requires-clause-cause : goal.reason-requires-clause-cause
 reason-requires-clause-cause c =

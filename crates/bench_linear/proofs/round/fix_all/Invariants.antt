@@ -1,10 +1,11 @@
 use Rattle.std.proofs.Common.{◌≡◌, ◌+◌, ◌≤◌}
-use Rattle.bench_linear.specs.Digits.{Extends}
+use Rattle.bench_linear.specs.Digits.{Extends, room_of}
 use Rattle.bench_linear.proofs.round.fix_all.Given as goal
 
 abbrev pub invariant-loop-at : goal.invariant-loop-at
 invariant-loop-at l = record {
   starts : l.cells.starts ≡ l.fn.cells.starts;
   literals : Extends l.fn.cells.literals l.cells.literals;
-  room : 1000 ≤ l.cells.spare + l.at;
+  spare : 1000 ≤ l.cells.spare + l.at;
+  room : room_of l.cells ≡ room_of l.fn.cells;
 }

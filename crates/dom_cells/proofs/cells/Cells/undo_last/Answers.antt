@@ -1,8 +1,10 @@
 use Rattle.std.proofs.Common.{rules, ◌≡◌, ◌∙◌, refl, ap, ◌-◌, length, arith, FitsSigned, w64, slice_get, Some, vec_len, vec_capacity}
 use Rattle.std.proofs.lemmas.Int.{to_z-of_z}
+use Rattle.std.proofs.lemmas.List.{length-map}
 use Rattle.std.proofs.lemmas.Option.{slice_get_read}
 use Rattle.dom_cells.specs.Box.{Trailed}
-use Rattle.std.proofs.Common.{take}
+use Rattle.std.proofs.Common.{map, take}
+use Rattle.dom_cells.specs.Stack.{literal_of}
 use Rattle.dom_cells.proofs.StackLaws.{popped-within, popped_stack, literals-front, starts-set}
 use Rattle.dom_cells.proofs.cells.Cells.undo_last.Goals as goal
 
@@ -30,5 +32,7 @@ returns-in-Some c = record {
   literals = literals-front c.self.inside.changes.items c.pop.new.self.items c.in-Some.change c.in-Some.ensures.items
       ∙ ap (λ (t : Trailed). take (length t.literals - 1) t.literals) c.self.view_is;
   spare = (let e : vec_capacity c.self.inside.changes - vec_len c.self.inside.changes ≡ c.args.self.now.spare = ap (λ (t : Trailed). t.spare) c.self.view_is in
-      omega (arith, c.in-Some.ensures.len, c.in-Some.ensures.capacity));
+      let n : length (map literal_of c.self.inside.changes.items) ≡ length c.args.self.now.literals = ap (λ (t : Trailed). length t.literals) c.self.view_is in
+      let m : length (map literal_of c.self.inside.changes.items) ≡ length c.self.inside.changes.items = length-map c.self.inside.changes.items literal_of in
+      omega (arith, c.in-Some.ensures.len, c.in-Some.ensures.capacity, c.self.inside.changes.ok));
 }
