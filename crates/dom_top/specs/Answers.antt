@@ -13,3 +13,14 @@ code_of WordsRefused = 3
 code_of ReadFault = 4
 code_of WriteFault = 5
 code_of NoMemory = 6
+
+-- the answer comes before anything is written, and before room is made for that
+abbrev pub IsEarly : Answer → Type 0
+IsEarly (Best values nodes nogoods) = ⊥
+IsEarly (Infeasible nodes nogoods) = ⊥
+IsEarly Shown = ⊥
+IsEarly (ModelRefused fault) = Unit {0}
+IsEarly WordsRefused = Unit {0}
+IsEarly ReadFault = Unit {0}
+IsEarly WriteFault = ⊥
+IsEarly NoMemory = ⊥

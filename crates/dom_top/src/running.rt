@@ -1,6 +1,6 @@
 //! The top call.
 ghost use Rattle.std.specs.Prelude.{◌≡◌, ◌≤◌};
-ghost use Rattle.dom_top.specs.Answers.{code_of};
+ghost use Rattle.dom_top.specs.Answers.{code_of, IsEarly};
 ghost use Rattle.dom_top.specs.Messages.{message_of, Tells};
 ghost use Rattle.dom_top.specs.Right.{IsAnswered, IsRight, course};
 ghost use Rattle.dom_top.specs.Shown.{IsShownText};
@@ -34,6 +34,7 @@ pub fn run<R: Threads + Sync + AllocGlobal, F: Folder, O: Sink, E: Sink>(
         (written (O.bytes out.old) (O.bytes out.new) (O.faults out.old) (O.faults out.new))) result.answer }
     ensures told { Tells (E.bytes err.old) (E.bytes err.new) (E.faults err.old) (E.faults err.new)
         (message_of result.answer) }
+    ensures untouched { IsEarly result.answer → out.new ≡ out.old }
     ensures silent { code_of result.answer ≡ 0 → err.new ≡ err.old }
     ensures files { F.bytes folder.new ≡ F.bytes folder.old }
     ensures reads { F.read_faults folder.old ≤ F.read_faults folder.new }
@@ -56,6 +57,7 @@ fn answer_of<F: Folder, O: Sink>(
     ensures right { IsRight (bytes_of words.now) (course (F.bytes folder.old)
         (F.read_faults folder.old) (F.read_faults folder.new)
         (written (O.bytes out.old) (O.bytes out.new) (O.faults out.old) (O.faults out.new))) result }
+    ensures untouched { IsEarly result → out.new ≡ out.old }
     ensures files { F.bytes folder.new ≡ F.bytes folder.old }
     ensures reads { F.read_faults folder.old ≤ F.read_faults folder.new }
     ensures writes { F.write_faults folder.new ≡ F.write_faults folder.old }
@@ -74,6 +76,7 @@ fn solve_file<F: Folder, O: Sink>(alloc: Global, model: &str, folder: &mut F, ou
         (F.read_faults folder.old) (F.read_faults folder.new)
         (written (O.bytes out.old) (O.bytes out.new) (O.faults out.old) (O.faults out.new)))
         model.now result }
+    ensures untouched { IsEarly result → out.new ≡ out.old }
     ensures files { F.bytes folder.new ≡ F.bytes folder.old }
     ensures reads { F.read_faults folder.old ≤ F.read_faults folder.new }
     ensures writes { F.write_faults folder.new ≡ F.write_faults folder.old }
@@ -90,6 +93,7 @@ fn solve_file<F: Folder, O: Sink>(alloc: Global, model: &str, folder: &mut F, ou
 fn solve_text<O: Sink>(alloc: Global, text: &[u8], out: &mut O) -> Answer
     ensures right { IsSolvedText text.now
         (written (O.bytes out.old) (O.bytes out.new) (O.faults out.old) (O.faults out.new)) result }
+    ensures untouched { IsEarly result → out.new ≡ out.old }
     ensures kept { O.faults out.old ≤ O.faults out.new }
 {
     match read_text(alloc, text) {
@@ -108,6 +112,7 @@ fn show_file<F: Folder, O: Sink>(alloc: Global, model: &str, folder: &mut F, out
         (F.read_faults folder.old) (F.read_faults folder.new)
         (written (O.bytes out.old) (O.bytes out.new) (O.faults out.old) (O.faults out.new)))
         model.now result }
+    ensures untouched { IsEarly result → out.new ≡ out.old }
     ensures files { F.bytes folder.new ≡ F.bytes folder.old }
     ensures reads { F.read_faults folder.old ≤ F.read_faults folder.new }
     ensures writes { F.write_faults folder.new ≡ F.write_faults folder.old }
@@ -124,6 +129,7 @@ fn show_file<F: Folder, O: Sink>(alloc: Global, model: &str, folder: &mut F, out
 fn show_text<O: Sink>(alloc: Global, text: &[u8], out: &mut O) -> Answer
     ensures right { IsShownText text.now
         (written (O.bytes out.old) (O.bytes out.new) (O.faults out.old) (O.faults out.new)) result }
+    ensures untouched { IsEarly result → out.new ≡ out.old }
     ensures kept { O.faults out.old ≤ O.faults out.new }
 {
     match read_text(alloc, text) {

@@ -1,5 +1,6 @@
 //! Showing the items of a text.
 ghost use Rattle.std.specs.Prelude.{◌≡◌, ◌≤◌};
+ghost use Rattle.dom_top.specs.Answers.{IsEarly};
 ghost use Rattle.dom_top.specs.Shown.{IsShown};
 ghost use Rattle.dom_top.specs.Written.{written};
 
@@ -14,6 +15,7 @@ use std::alloc::Global;
 pub(crate) fn show_items<O: Sink>(alloc: Global, items: &Items, out: &mut O) -> Answer
     ensures shown { IsShown items.now
         (written (O.bytes out.old) (O.bytes out.new) (O.faults out.old) (O.faults out.new)) result }
+    ensures late { IsEarly result → ⊥ }
     ensures kept { O.faults out.old ≤ O.faults out.new }
 {
     let Ok(text) = print(alloc, items) else {

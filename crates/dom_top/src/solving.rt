@@ -2,6 +2,7 @@
 ghost use Rattle.std.specs.Prelude.{◌≡◌, ◌≤◌};
 ghost use Rattle.dom_model.specs.Least.{IsLeast, width_of};
 ghost use Rattle.dom_search.specs.Outcome.{AreNodes};
+ghost use Rattle.dom_top.specs.Answers.{IsEarly};
 ghost use Rattle.dom_top.specs.Solved.{HasNone, IsSolved};
 ghost use Rattle.dom_top.specs.Written.{written};
 
@@ -19,6 +20,7 @@ pub(crate) fn solve_model<O: Sink>(alloc: Global, model: &Model, out: &mut O) ->
     requires { width_of model.now ≤ 1000000 }
     ensures solved { IsSolved model.now
         (written (O.bytes out.old) (O.bytes out.new) (O.faults out.old) (O.faults out.new)) result }
+    ensures late { IsEarly result → ⊥ }
     ensures kept { O.faults out.old ≤ O.faults out.new }
 {
     match search(alloc, model) {
@@ -40,6 +42,7 @@ fn report_best<O: Sink>(
     requires nodes { AreNodes model.now nodes }
     ensures solved { IsSolved model.now
         (written (O.bytes out.old) (O.bytes out.new) (O.faults out.old) (O.faults out.new)) result }
+    ensures late { IsEarly result → ⊥ }
     ensures kept { O.faults out.old ≤ O.faults out.new }
 {
     let Ok(values) = best.to_values(alloc) else {
@@ -65,6 +68,7 @@ fn report_none<O: Sink>(model: &Model, nodes: u64, out: &mut O) -> Answer
     requires nodes { AreNodes model.now nodes }
     ensures solved { IsSolved model.now
         (written (O.bytes out.old) (O.bytes out.new) (O.faults out.old) (O.faults out.new)) result }
+    ensures late { IsEarly result → ⊥ }
     ensures kept { O.faults out.old ≤ O.faults out.new }
 {
     let _vars = model.vars();
