@@ -1,33 +1,28 @@
 -- What changing one term's variable makes of a sum.
-use Rattle.std.proofs.Common.{◌≡◌, ℕ, zero, suc, ◌+◌, ◌<◌, ◌≤◌, ◌^◌, ◌==◌, Bool, true, false, ◌||◌, List, [], ◌∷◌, ◌++◌, length, take, drop, get_or, ℤ, pos, ◌+ℤ◌, ◌-ℤ◌, ◌≤ℤ◌, unsigned_abs, FitsSigned, if◌then◌else◌, refl, sym, ◌∙◌, ap, subst, arith, inl, inr, Some, None, Option, is_some, slice_get, add-one}
+use Rattle.std.proofs.Common.{◌≡◌, ℕ, zero, suc, ◌+◌, ◌<◌, ◌≤◌, ◌^◌, ◌==◌, Bool, true, false, ◌||◌, List, [], ◌∷◌, ◌++◌, length, take, drop, get_or, ℤ, ◌+ℤ◌, ◌-ℤ◌, ◌≤ℤ◌, if◌then◌else◌, refl, sym, ◌∙◌, ap, subst, arith, Some, None, Option, is_some, slice_get, add-one}
 use Rattle.std.proofs.lemmas.Bool.Decides.{Decides-eqb}
 use Rattle.std.proofs.lemmas.Int.{ints}
 use Rattle.std.proofs.lemmas.List.{take-append-drop, drop_more}
-use Rattle.std.specs.Int.{w128}
 use Rattle.dom_cells.specs.Box.{kept}
-use Rattle.dom_cells.specs.Cell.{IsPart, IsSane, ends_of}
+use Rattle.dom_cells.specs.Cell.{IsSane, ends_of}
 use Rattle.dom_core.specs.Ends.{Ends, sum_ends, scaled_ends}
 use Rattle.dom_core.specs.declared.arg.Arg.{Arg}
 use Rattle.dom_core.specs.declared.arg.Arg.TheVariants.{Var, Const}
-use Rattle.dom_core.specs.Literal.{is_end}
 use Rattle.dom_core.specs.declared.literal.Literal.{Literal}
 use Rattle.dom_cells.specs.declared.start.Start.{Start}
 use Rattle.dom_core.specs.declared.var_id.VarId.{VarId}
 use Rattle.dom_cells.proofs.BoxLaws.{cut_at-other, sane-ends}
-use Rattle.dom_core.proofs.TestLaws.{true_or_false, not_both}
+use Rattle.dom_core.proofs.TestLaws.{not_both}
 use Rattle.kind_law.specs.Laws.{Each, EndsIn, hulls}
-use Rattle.kind_law.specs.Next.{HasNoEnd, IsFirstEnd, IsNext}
-use Rattle.kind_law.proofs.BoundLaws.{part, kept_has}
+use Rattle.kind_law.specs.Next.{HasNoEnd, IsNext}
 use Rattle.kind_law.proofs.EachLaws.{each_map}
 use Rattle.kind_law.proofs.NextLaws.{next_found, not_some}
-use Rattle.kind_linear.specs.InsertLaws.{same_ends, total-insert, magnitude-insert, total_same, each-insert}
-use Rattle.kind_linear.specs.Linear.{Form, form_vars, form_refuted, FormFits}
-use Rattle.kind_linear.specs.Relation.{refuted_by}
-use Rattle.kind_linear.specs.SumLaws.{each_listed, scaled_in, smaller_size, total_size, total_within}
-use Rattle.kind_linear.specs.declared.relation.Relation.{Relation}
+use Rattle.kind_linear.specs.InsertLaws.{same_ends, total-insert, total_same, each-insert}
+use Rattle.kind_linear.specs.Linear.{Form, form_vars, FormFits}
+use Rattle.kind_linear.specs.SumLaws.{each_listed, total_size, total_within}
 use Rattle.kind_linear.specs.declared.term.Reading.TheVariants.{Values}
 use Rattle.kind_linear.specs.Slack.{replaced_ends, HasSingles, IsSlack, IsArgEnd}
-use Rattle.kind_linear.specs.Sum.{arg_ends, total, size_of, magnitude, with_arg, vars_of, is_listed, with_new, collected, distinct}
+use Rattle.kind_linear.specs.Sum.{arg_ends, total, size_of, magnitude, with_arg, vars_of, is_listed, with_new, collected}
 use Rattle.kind_linear.specs.declared.term.Term.{Term}
 
 -- ---- a sum with one part replaced
