@@ -209,7 +209,7 @@ abbrev pub PaysFront : Bool → Trailed → Option Literal → List Literal → 
 PaysFront turned m implied ls ts rest cost =
     (s : ℕ → Ends) → Each (λ u. AreLeft m implied ls u.0 (s u.0)) (vars_of ts)
     → ((edge turned (total ts (arg_ends (hulls (asked m implied)))) -ℤ edge turned (total rest (arg_ends (hulls (asked m implied))))) -ℤ cost)
-      ≤ℤ (edge turned (total ts (arg_ends s)) -ℤ edge turned (total rest (arg_ends s)))
+    ≤ℤ (edge turned (total ts (arg_ends s)) -ℤ edge turned (total rest (arg_ends s)))
 
 pub front_first : (turned : Bool) (m : Trailed) (implied : Option Literal) (ls : List Literal) (ts : List Term) (slack : ℕ)
     → PaysFront turned m implied ls ts ts (pos slack -ℤ pos slack)

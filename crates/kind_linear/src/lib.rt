@@ -8,6 +8,8 @@ mod implied_tests;
 mod linear;
 mod output;
 mod reach;
+#[cfg(test)]
+mod reason_tests;
 mod reified;
 mod relation;
 mod slack;

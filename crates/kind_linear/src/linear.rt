@@ -4,7 +4,9 @@ ghost use Rattle.kind_linear.specs.Sum.{terms_of};
 ghost use Rattle.kind_linear.specs.Output.{can_define};
 
 use crate::explained::write_sum_reason;
-use crate::relation::{Relation, is_difference, is_equality, is_kept, is_met, is_refuted, truth_over};
+use crate::relation::{
+    Relation, is_difference, is_equality, is_kept, is_met, is_refuted, truth_over,
+};
 use crate::slack::Slack;
 use crate::term::{Reading, Term, is_unit, pair_up};
 use crate::total::total_of;

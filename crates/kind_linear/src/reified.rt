@@ -140,8 +140,7 @@ impl LinearReified {
         ensures none { OnErr result (out.new ≡ []) }
     {
         out.clear();
-        let written =
-            write_truth_reason(&self.linear, self.output, cells, implied, verdict, out);
+        let written = write_truth_reason(&self.linear, self.output, cells, implied, verdict, out);
         if written.is_err() {
             out.clear();
         }

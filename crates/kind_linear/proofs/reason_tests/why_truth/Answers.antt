@@ -1,0 +1,20 @@
+use Rattle.std.proofs.Common.{subst, Some}
+use Rattle.dom_cells.specs.Box.{cell_of}
+use Rattle.kind_law.specs.Next.{IsNext}
+use Rattle.kind_law.proofs.ReasonLaws.{next_cause}
+use Rattle.kind_linear.specs.Reified.{truth_vars, truth_refuted}
+use Rattle.kind_linear.proofs.reason_tests.why_truth.Goals as goal
+
+pub reason-requires-in-Some-clause-cause : goal.reason-requires-in-Some-clause-cause
+reason-requires-in-Some-clause-cause c =
+    let next : IsNext (truth_refuted c.args.kind.now) (truth_vars c.args.kind.now) (cell_of c.args.cells.now) (Some c.in-Some.end) =
+    subst (IsNext (truth_refuted c.args.kind.now) (truth_vars c.args.kind.now) (cell_of c.args.cells.now)) c.in-Some.is c.next.ensures in
+    (next_cause (truth_refuted c.args.kind.now) (truth_vars c.args.kind.now) c.args.cells.now c.in-Some.end
+    c.width-width.ensures.sound c.requires.below next).1
+
+pub reason-requires-in-Some-clause-var : goal.reason-requires-in-Some-clause-var
+reason-requires-in-Some-clause-var c =
+    let next : IsNext (truth_refuted c.args.kind.now) (truth_vars c.args.kind.now) (cell_of c.args.cells.now) (Some c.in-Some.end) =
+    subst (IsNext (truth_refuted c.args.kind.now) (truth_vars c.args.kind.now) (cell_of c.args.cells.now)) c.in-Some.is c.next.ensures in
+    (next_cause (truth_refuted c.args.kind.now) (truth_vars c.args.kind.now) c.args.cells.now c.in-Some.end
+    c.width-width.ensures.sound c.requires.below next).0

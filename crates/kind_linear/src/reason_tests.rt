@@ -1,0 +1,243 @@
+ghost use Rattle.std.specs.Prelude.{◌≡◌, ◌<◌, ◌≤◌, OnOk, length};
+ghost use Rattle.dom_cells.specs.Box.{cell_of};
+ghost use Rattle.kind_law.specs.Laws.{AllBelow, hulls};
+ghost use Rattle.kind_linear.specs.Linear.{form_vars, FormFits};
+ghost use Rattle.kind_linear.specs.Reified.{truth_vars};
+
+use super::*;
+use dom_cells::{Cells, Narrowed, Start};
+use dom_core::{Arg, Clause, Domain, Literal, Rel, VarId};
+use kind_law::{Kind, Propagate};
+use std::test::Fail;
+
+const X: VarId = VarId(0);
+
+const Y: VarId = VarId(1);
+
+const B: VarId = VarId(2);
+
+fn at_least(var: VarId, value: i64) -> Literal {
+    let rel = Rel::Ge;
+    Literal { var, rel, value }
+}
+
+fn at_most(var: VarId, value: i64) -> Literal {
+    let rel = Rel::Le;
+    Literal { var, rel, value }
+}
+
+/// Cuts the variable's cell at both ends.
+fn put_between(cells: &mut Cells, var: VarId, lo: i64, hi: i64) -> Result<(), Fail>
+    requires { var.0 < length cells.old.starts }
+    ensures { OnOk result (cells.new.starts ≡ cells.old.starts) }
+{
+    let low = Literal {
+        var,
+        rel: Rel::Ge,
+        value: lo,
+    };
+    let high = Literal {
+        var,
+        rel: Rel::Le,
+        value: hi,
+    };
+    cells.reserve(2)?;
+    if cells.narrow(low) == Narrowed::Emptied {
+        return Err("no value is so high".into());
+    }
+    cells.reserve(1)?;
+    if cells.narrow(high) == Narrowed::Emptied {
+        return Err("no value is so low".into());
+    }
+    Ok(())
+}
+
+/// Why the sum is refuted, or why the end is implied that it implies first.
+fn why(kind: &Linear, cells: &Cells, out: &mut Clause) -> Result<(), Fail>
+    requires below { AllBelow (length cells.now.starts) (form_vars kind.now) }
+    requires fits { FormFits kind.now (hulls (cell_of cells.now)) }
+{
+    let _width = cells.width();
+    if kind.refutes(cells) {
+        kind.reason(cells, None, out)?;
+        return Ok(());
+    }
+    match kind.next(cells) {
+        None => Err("nothing is refuted or implied".into()),
+        Some(end) => {
+            kind.reason(cells, Some(end), out)?;
+            Ok(())
+        }
+    }
+}
+
+/// Why the truth is refuted, or why the end is implied that it implies first.
+fn why_truth(kind: &LinearReified, cells: &Cells, out: &mut Clause) -> Result<(), Fail>
+    requires below { AllBelow (length cells.now.starts) (truth_vars kind.now) }
+    requires fits { FormFits kind.now.form (hulls (cell_of cells.now)) }
+{
+    let _width = cells.width();
+    if kind.refutes(cells) {
+        kind.reason(cells, None, out)?;
+        return Ok(());
+    }
+    match kind.next(cells) {
+        None => Err("nothing is refuted or implied".into()),
+        Some(end) => {
+            kind.reason(cells, Some(end), out)?;
+            Ok(())
+        }
+    }
+}
+
+/// The reason of a relation of x, times `a`, and y, times `b`.
+fn told_over(
+    rt: &HostRuntime,
+    a: i8,
+    b: i8,
+    relation: Relation,
+    bound: i64,
+    cells: &Cells,
+) -> Result<Clause, Fail>
+    requires { 2 ≤ length cells.now.starts }
+{
+    let _ends = (cells.lo(X), cells.hi(X), cells.lo(Y), cells.hi(Y));
+    let coefs = [a as i64, b as i64];
+    let args = [Arg::Var(X), Arg::Var(Y)];
+    let kind = Linear::new(rt.alloc(), &coefs, &args, relation, bound)?;
+    let mut out = Clause::new(rt.alloc());
+    why(&kind, cells, &mut out)?;
+    Ok(out)
+}
+
+/// The reason of a relation of x, times `a`, and y, times `b`, which were 0 to 9 each.
+fn told(
+    rt: &HostRuntime,
+    a: i8,
+    b: i8,
+    relation: Relation,
+    bound: i64,
+    x: (i64, i64),
+    y: (i64, i64),
+) -> Result<Clause, Fail> {
+    let starts = [Start::Span { lo: 0, hi: 9 }, Start::Span { lo: 0, hi: 9 }];
+    let mut cells = Cells::new(rt.alloc(), &starts)?;
+    put_between(&mut cells, X, x.0, x.1)?;
+    put_between(&mut cells, Y, y.0, y.1)?;
+    told_over(rt, a, b, relation, bound, &cells)
+}
+
+/// The reason of the truth b of a relation of x, times `one`, and y, times `other`.
+fn truth_told_over(
+    rt: &HostRuntime,
+    one: i8,
+    other: i8,
+    relation: Relation,
+    bound: i64,
+    cells: &Cells,
+) -> Result<Clause, Fail>
+    requires { 3 ≤ length cells.now.starts }
+{
+    let _ends = (cells.lo(X), cells.hi(X), cells.lo(Y), cells.hi(Y));
+    let coefs = [one as i64, other as i64];
+    let args = [Arg::Var(X), Arg::Var(Y)];
+    let kind = LinearReified::new(rt.alloc(), &coefs, &args, relation, bound, Arg::Var(B))?;
+    let mut out = Clause::new(rt.alloc());
+    why_truth(&kind, cells, &mut out)?;
+    Ok(out)
+}
+
+/// The reason of the truth b of a relation of x and y, which were 0 to 9 each.
+fn truth_told(
+    rt: &HostRuntime,
+    relation: Relation,
+    bound: i64,
+    x: (i64, i64),
+    y: (i64, i64),
+    truth: (i64, i64),
+) -> Result<Clause, Fail> {
+    let starts = [
+        Start::Span { lo: 0, hi: 9 },
+        Start::Span { lo: 0, hi: 9 },
+        Start::Span { lo: 0, hi: 1 },
+    ];
+    let mut cells = Cells::new(rt.alloc(), &starts)?;
+    put_between(&mut cells, X, x.0, x.1)?;
+    put_between(&mut cells, Y, y.0, y.1)?;
+    put_between(&mut cells, B, truth.0, truth.1)?;
+    truth_told_over(rt, 1, 1, relation, bound, &cells)
+}
+
+#[test]
+fn a_reason_names_lower_ends_of_what_is_added_alone(rt: HostRuntime) -> Result<(), Fail> {
+    let out = told(&rt, 1, 1, Relation::AtMost, 5, (4, 8), (2, 7))?;
+    assert_eq!(rt; out.literals(), [at_most(X, 3), at_most(Y, 1)].as_slice());
+    let out = told(&rt, 1, -1, Relation::AtMost, -5, (1, 8), (2, 5))?;
+    assert_eq!(rt; out.literals(), [at_most(X, 0), at_least(Y, 6)].as_slice());
+    Ok(())
+}
+
+#[test]
+fn a_reason_leaves_out_what_the_slack_makes_up_for(rt: HostRuntime) -> Result<(), Fail> {
+    let out = told(&rt, 1, 3, Relation::AtMost, 5, (1, 9), (2, 9))?;
+    assert_eq!(rt; out.literals(), [at_most(Y, 1)].as_slice());
+    let out = told(&rt, 1, -2, Relation::Equal, 9, (0, 8), (1, 9))?;
+    assert_eq!(rt; out.literals(), [at_most(Y, 0)].as_slice());
+    Ok(())
+}
+
+#[test]
+fn an_implied_end_is_told_by_the_other_variable(rt: HostRuntime) -> Result<(), Fail> {
+    let out = told(&rt, 2, 3, Relation::AtMost, 20, (0, 9), (4, 8))?;
+    assert_eq!(rt; out.literals(), [at_most(Y, 3), at_most(X, 4)].as_slice());
+    let out = told(&rt, 1, 1, Relation::Equal, 12, (0, 7), (0, 9))?;
+    assert_eq!(rt; out.literals(), [at_least(X, 8), at_least(Y, 5)].as_slice());
+    Ok(())
+}
+
+#[test]
+fn a_difference_is_told_by_both_ends(rt: HostRuntime) -> Result<(), Fail> {
+    let out = told(&rt, 1, 1, Relation::Differ, 5, (3, 3), (2, 2))?;
+    let all = [at_most(X, 2), at_least(X, 4), at_most(Y, 1), at_least(Y, 3)];
+    assert_eq!(rt; out.literals(), all.as_slice());
+    Ok(())
+}
+
+#[test]
+fn a_truth_is_told_by_one_end_of_each(rt: HostRuntime) -> Result<(), Fail> {
+    let out = truth_told(&rt, Relation::AtMost, 3, (0, 1), (0, 1), (0, 0))?;
+    let all = [at_least(B, 1), at_least(X, 2), at_least(Y, 2)];
+    assert_eq!(rt; out.literals(), all.as_slice());
+    let out = truth_told(&rt, Relation::AtMost, 3, (3, 9), (2, 9), (1, 1))?;
+    let all = [at_most(B, 0), at_most(X, 2), at_most(Y, 1)];
+    assert_eq!(rt; out.literals(), all.as_slice());
+    let out = truth_told(&rt, Relation::Differ, 3, (4, 9), (0, 9), (0, 1))?;
+    assert_eq!(rt; out.literals(), [at_most(X, 3), at_least(B, 1)].as_slice());
+    Ok(())
+}
+
+#[test]
+fn a_hole_beside_the_implied_end_is_told(rt: HostRuntime) -> Result<(), Fail> {
+    let domain = Domain::from_values(rt.alloc(), [-2, 1, 3].as_slice())
+        .ok()
+        .ok_or("no domain")?;
+    let starts = [Start::Values(domain), Start::Span { lo: 0, hi: 9 }];
+    let mut cells = Cells::new(rt.alloc(), &starts)?;
+    cells.reserve(1)?;
+    let gone = Literal {
+        var: X,
+        rel: Rel::Ne,
+        value: 1,
+    };
+    if cells.narrow(gone) != Narrowed::Changed {
+        return Err("a value was not taken out".into());
+    }
+    let out = told_over(&rt, -2, 0, Relation::AtMost, -2, &cells)?;
+    let hole = Literal {
+        var: X,
+        rel: Rel::Eq,
+        value: 1,
+    };
+    assert_eq!(rt; out.literals(), [hole, at_least(X, 3)].as_slice());
+    Ok(())
+}
