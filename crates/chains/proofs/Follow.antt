@@ -1,14 +1,13 @@
 -- Following a chain.
-use Rattle.std.proofs.Common.{◌≡◌, ℕ, zero, suc, ◌+◌, ◌<◌, ◌≤◌, ◌⊎◌, inl, inr, List, [], ◌∷◌, map, length, get_or, set, replicate, Option, None, Some, refl, sym, ◌∙◌, ap, subst, arith, length-set}
+use Rattle.std.proofs.Common.{◌≡◌, ℕ, zero, suc, ◌+◌, ◌<◌, ◌≤◌, ◌⊎◌, inl, inr, List, [], ◌∷◌, map, length, set, replicate, Option, None, Some, refl, sym, ◌∙◌, ap, subst, arith, length-set}
 use Rattle.std.proofs.lemmas.List.{get_or-set_same, get_or-set_other, get_or-replicate, length-replicate}
 use Rattle.std.proofs.Math.ListN.{get_or-map}
 use Rattle.chains.specs.declared.link.Link.{Link}
 use Rattle.chains.specs.declared.link.Link.TheVariants.{End, To, Nothing}
 use Rattle.chains.specs.declared.marks.Mark.{Mark}
 use Rattle.chains.specs.declared.marks.Mark.TheVariants.{Unseen, Endless, EndsAt}
-use Rattle.chains.specs.declared.walk.Walk.{Walk}
 use Rattle.chains.specs.Chains.{link_at, Ends, here, there, IsEnd, AreEnds}
-use Rattle.chains.specs.Walks.{next_of, mark_of, end_of, mark_at, after, IsRight, AreRight, IsOn, AreRightBut, StaysWithin, StaySeen, IsWalked, IsSettled, IsFollowed}
+use Rattle.chains.specs.Walks.{next_of, mark_of, end_of, mark_at, after, IsRight, AreRight, IsOn, AreRightBut, StaysWithin, StaySeen, IsWalked, IsSettled}
 use Rattle.chains.proofs.Unseen.{unseen, unseen_below, unseen_put, unseen_some}
 
 -- ---- numbers and marks

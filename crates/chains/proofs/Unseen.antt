@@ -1,5 +1,5 @@
 -- How many places are unseen.
-use Rattle.std.proofs.Common.{◌≡◌, ℕ, zero, suc, ◌+◌, ◌<◌, ◌≤◌, List, [], ◌∷◌, length, get_or, set, refl, sym, ◌∙◌, ap, arith}
+use Rattle.std.proofs.Common.{◌≡◌, ℕ, zero, suc, ◌+◌, ◌<◌, ◌≤◌, List, [], ◌∷◌, length, get_or, set, arith}
 use Rattle.chains.specs.declared.marks.Mark.{Mark}
 use Rattle.chains.specs.declared.marks.Mark.TheVariants.{Unseen, Endless, EndsAt}
 

@@ -1,4 +1,4 @@
-use Rattle.std.proofs.Common.{arith, subst, sym}
+use Rattle.std.proofs.Common.{arith}
 use Rattle.std.proofs.lemmas.List.{length-replicate}
 use Rattle.chains.specs.declared.marks.Mark.TheVariants.{Unseen}
 use Rattle.chains.proofs.Follow.{begin_right, all_ends}

@@ -1,5 +1,5 @@
 -- The places so far are seen, and each mark is right.
-use Rattle.std.proofs.Common.{◌≡◌, ◌<◌, ◌≤◌, ℕ, length}
+use Rattle.std.proofs.Common.{◌≡◌, ◌<◌, ℕ, length}
 use Rattle.chains.specs.declared.marks.Mark.TheVariants.{Unseen}
 use Rattle.chains.specs.Walks.{AreRight, mark_at}
 use Rattle.chains.proofs.ends.ends_of.Given as goal

@@ -1,7 +1,4 @@
 -- The places so far are marked by the end.
-use Rattle.std.proofs.Common.{◌≡◌}
-use Rattle.chains.specs.Chains.{IsEnd}
-use Rattle.chains.specs.Walks.{mark_of, StaysWithin}
 use Rattle.chains.proofs.Follow.{IsSettling}
 use Rattle.chains.proofs.walk.settle.Given as goal
 
