@@ -183,7 +183,12 @@ fn explain_values(
 }
 
 /// Tells that the value is gone, where it lies between the ends and is.
-pub(crate) fn explain_value(cells: &Cells, var: VarId, value: i64, out: &mut Clause) -> Result<(), AllocError>
+pub(crate) fn explain_value(
+    cells: &Cells,
+    var: VarId,
+    value: i64,
+    out: &mut Clause,
+) -> Result<(), AllocError>
     requires var { var.0 < length cells.now.starts }
     requires start { IsListedAt (start_at cells.now.starts var.0) value }
     ensures fine { OnOk result (AddsFine cells.now out.old out.new) }
