@@ -1,8 +1,6 @@
 ghost use Rattle.std.specs.Prelude.{◌≡◌, ◌<◌, ◌≤◌, OnOk, length};
 ghost use Rattle.dom_cells.specs.Box.{cell_of};
 ghost use Rattle.kind_law.specs.Laws.{AllBelow, hulls};
-ghost use Rattle.kind_linear.specs.Linear.{form_vars, FormFits};
-ghost use Rattle.kind_linear.specs.Reified.{truth_vars};
 
 use super::*;
 use dom_cells::{Cells, Narrowed, Start};
@@ -52,29 +50,10 @@ fn put_between(cells: &mut Cells, var: VarId, lo: i64, hi: i64) -> Result<(), Fa
     Ok(())
 }
 
-/// Why the sum is refuted, or why the end is implied that it implies first.
-fn why(kind: &Linear, cells: &Cells, out: &mut Clause) -> Result<(), Fail>
-    requires below { AllBelow (length cells.now.starts) (form_vars kind.now) }
-    requires fits { FormFits kind.now (hulls (cell_of cells.now)) }
-{
-    let _width = cells.width();
-    if kind.refutes(cells) {
-        kind.reason(cells, None, out)?;
-        return Ok(());
-    }
-    match kind.next(cells) {
-        None => Err("nothing is refuted or implied".into()),
-        Some(end) => {
-            kind.reason(cells, Some(end), out)?;
-            Ok(())
-        }
-    }
-}
-
-/// Why the truth is refuted, or why the end is implied that it implies first.
-fn why_truth(kind: &LinearReified, cells: &Cells, out: &mut Clause) -> Result<(), Fail>
-    requires below { AllBelow (length cells.now.starts) (truth_vars kind.now) }
-    requires fits { FormFits kind.now.form (hulls (cell_of cells.now)) }
+/// Why the kind is refuted, or why the end is implied that it implies first.
+fn why<K: Propagate>(kind: &K, cells: &Cells, out: &mut Clause) -> Result<(), Fail>
+    requires below { AllBelow (length cells.now.starts) (K.vars kind.now) }
+    requires fits { K.fits kind.now (hulls (cell_of cells.now)) }
 {
     let _width = cells.width();
     if kind.refutes(cells) {
@@ -143,7 +122,7 @@ fn truth_told_over(
     let args = [Arg::Var(X), Arg::Var(Y)];
     let kind = LinearReified::new(rt.alloc(), &coefs, &args, relation, bound, Arg::Var(B))?;
     let mut out = Clause::new(rt.alloc());
-    why_truth(&kind, cells, &mut out)?;
+    why(&kind, cells, &mut out)?;
     Ok(out)
 }
 
@@ -239,5 +218,25 @@ fn a_hole_beside_the_implied_end_is_told(rt: HostRuntime) -> Result<(), Fail> {
         value: 1,
     };
     assert_eq!(rt; out.literals(), [hole, at_least(X, 3)].as_slice());
+    Ok(())
+}
+
+#[test]
+fn an_equation_that_defines_implies_and_tells(rt: HostRuntime) -> Result<(), Fail> {
+    let starts = [
+        Start::Span { lo: 0, hi: 1 },
+        Start::Span { lo: 0, hi: 1 },
+        Start::Span { lo: 0, hi: 9 },
+    ];
+    let cells = Cells::new(rt.alloc(), &starts)?;
+    let args = [Arg::Var(X), Arg::Var(Y), Arg::Var(B)];
+    let linear = Linear::new(rt.alloc(), &[3, 2, -1], &args, Relation::Equal, 4)?;
+    if !linear.can_define(2) {
+        return Err("the coefficient -1 was refused".into());
+    }
+    let kind = LinearOutput::new(rt.alloc(), linear, 2)?;
+    let mut out = Clause::new(rt.alloc());
+    why(&kind, &cells, &mut out)?;
+    assert_eq!(rt; out.literals(), [at_least(X, 1)].as_slice());
     Ok(())
 }

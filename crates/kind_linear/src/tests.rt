@@ -271,6 +271,7 @@ fn an_equation_gives_a_value_and_a_range_and_a_change(rt: HostRuntime) -> Result
     view.set(Y, two, two, Interval::new(-1, 0));
     assert_eq!(rt; kind.range(&Before(&view)), Interval::new(-4, 3));
     assert_eq!(rt; kind.change(&view), Interval::new(-2, 3));
+    assert!(rt; !kind.keeps(&view));
     Ok(())
 }
 
@@ -338,5 +339,9 @@ fn a_truth_has_a_value_and_a_range_and_a_change(rt: HostRuntime) -> Result<(), F
     view.set(Y, bit, bit, Interval::new(0, 0));
     assert_eq!(rt; kind.range(&Before(&view)), bit);
     assert_eq!(rt; kind.change(&view), bit);
+    assert!(rt; !kind.keeps(&view), "a truth that stays 0 may rise");
+    let one = Interval::new(1, 1);
+    view.set(Z, one, one, Interval::new(0, 0));
+    assert!(rt; kind.keeps(&view), "a truth that stays 1 doesn't fall");
     Ok(())
 }

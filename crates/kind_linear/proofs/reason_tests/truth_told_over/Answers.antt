@@ -9,8 +9,8 @@ use Rattle.kind_linear.proofs.PairLaws.{pair_fits, pair_terms, IsWide}
 use Rattle.kind_linear.specs.Reified.{Truth}
 use Rattle.kind_linear.proofs.reason_tests.truth_told_over.Goals as goal
 
-pub why_truth-requires-clause-fits : goal.why_truth-requires-clause-fits
-why_truth-requires-clause-fits c =
+pub why-requires-clause-fits : goal.why-requires-clause-fits
+why-requires-clause-fits c =
     let a_fits : FitsSigned w8 c.args.one = search rules in
     let b_fits : FitsSigned w8 c.args.other = search rules in
     let x_low : FitsSigned w64 c.lo.result = search rules in
