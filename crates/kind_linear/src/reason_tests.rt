@@ -169,8 +169,8 @@ fn a_reason_leaves_out_what_the_slack_makes_up_for(rt: HostRuntime) -> Result<()
 fn an_implied_end_is_told_by_the_other_variable(rt: HostRuntime) -> Result<(), Fail> {
     let out = told(&rt, 2, 3, Relation::AtMost, 20, (0, 9), (4, 8))?;
     assert_eq!(rt; out.literals(), [at_most(Y, 3), at_most(X, 4)].as_slice());
-    let out = told(&rt, 1, 1, Relation::Equal, 12, (0, 7), (0, 9))?;
-    assert_eq!(rt; out.literals(), [at_least(X, 8), at_least(Y, 5)].as_slice());
+    let out = told(&rt, 1, 1, Relation::Equal, 12, (0, 9), (0, 7))?;
+    assert_eq!(rt; out.literals(), [at_least(Y, 8), at_least(X, 5)].as_slice());
     Ok(())
 }
 
