@@ -1,33 +1,28 @@
 -- What changing one term's variable makes of a sum.
-use Rattle.std.proofs.Common.{◌≡◌, ℕ, zero, suc, ◌+◌, ◌<◌, ◌≤◌, ◌^◌, ◌==◌, Bool, true, false, ◌||◌, List, [], ◌∷◌, ◌++◌, length, take, drop, get_or, ℤ, pos, ◌+ℤ◌, ◌-ℤ◌, ◌≤ℤ◌, unsigned_abs, FitsSigned, if◌then◌else◌, refl, sym, ◌∙◌, ap, subst, arith, inl, inr, Some, None, Option, is_some, slice_get, add-one}
+use Rattle.std.proofs.Common.{◌≡◌, ℕ, zero, suc, ◌+◌, ◌<◌, ◌≤◌, ◌^◌, ◌==◌, Bool, true, false, ◌||◌, List, [], ◌∷◌, ◌++◌, length, take, drop, get_or, ℤ, ◌+ℤ◌, ◌-ℤ◌, ◌≤ℤ◌, if◌then◌else◌, refl, sym, ◌∙◌, ap, subst, arith, Some, None, Option, is_some, slice_get, add-one}
 use Rattle.std.proofs.lemmas.Bool.Decides.{Decides-eqb}
 use Rattle.std.proofs.lemmas.Int.{ints}
 use Rattle.std.proofs.lemmas.List.{take-append-drop, drop_more}
-use Rattle.std.specs.Int.{w128}
 use Rattle.dom_cells.specs.Box.{kept}
-use Rattle.dom_cells.specs.Cell.{IsPart, IsSane, ends_of}
+use Rattle.dom_cells.specs.Cell.{IsSane, ends_of}
 use Rattle.dom_core.specs.Ends.{Ends, sum_ends, scaled_ends}
 use Rattle.dom_core.specs.declared.arg.Arg.{Arg}
 use Rattle.dom_core.specs.declared.arg.Arg.TheVariants.{Var, Const}
-use Rattle.dom_core.specs.Literal.{is_end}
 use Rattle.dom_core.specs.declared.literal.Literal.{Literal}
 use Rattle.dom_cells.specs.declared.start.Start.{Start}
 use Rattle.dom_core.specs.declared.var_id.VarId.{VarId}
 use Rattle.dom_cells.proofs.BoxLaws.{cut_at-other, sane-ends}
-use Rattle.dom_core.proofs.TestLaws.{true_or_false, not_both}
+use Rattle.dom_core.proofs.TestLaws.{not_both}
 use Rattle.kind_law.specs.Laws.{Each, EndsIn, hulls}
-use Rattle.kind_law.specs.Next.{HasNoEnd, IsFirstEnd, IsNext}
-use Rattle.kind_law.proofs.BoundLaws.{part, kept_has}
+use Rattle.kind_law.specs.Next.{HasNoEnd, IsNext}
 use Rattle.kind_law.proofs.EachLaws.{each_map}
 use Rattle.kind_law.proofs.NextLaws.{next_found, not_some}
-use Rattle.kind_linear.specs.InsertLaws.{same_ends, total-insert, magnitude-insert, total_same, each-insert}
-use Rattle.kind_linear.specs.Linear.{Form, form_vars, form_refuted, FormFits}
-use Rattle.kind_linear.specs.Relation.{refuted_by}
-use Rattle.kind_linear.specs.SumLaws.{each_listed, scaled_in, smaller_size, total_size, total_within}
-use Rattle.kind_linear.specs.declared.relation.Relation.{Relation}
+use Rattle.kind_linear.specs.InsertLaws.{same_ends, total-insert, total_same, each-insert}
+use Rattle.kind_linear.specs.Linear.{Form, form_vars, FormFits}
+use Rattle.kind_linear.specs.SumLaws.{each_listed, total_size, total_within}
 use Rattle.kind_linear.specs.declared.term.Reading.TheVariants.{Values}
 use Rattle.kind_linear.specs.Slack.{replaced_ends, HasSingles, IsSlack, IsArgEnd}
-use Rattle.kind_linear.specs.Sum.{arg_ends, total, size_of, magnitude, with_arg, vars_of, is_listed, with_new, collected, distinct}
+use Rattle.kind_linear.specs.Sum.{arg_ends, total, size_of, magnitude, with_arg, vars_of, is_listed, with_new, collected}
 use Rattle.kind_linear.specs.declared.term.Term.{Term}
 
 -- ---- a sum with one part replaced
@@ -90,7 +85,7 @@ too_few a b c h e = omega arith
 one_more : (a b c d : ℕ) → a ≡ b + suc c → d ≡ b + 1 → a ≡ d + c
 one_more a b c d e f = omega arith
 
-append_none : (xs : List VarId) → xs ++ [] ≡ xs
+pub append_none : (xs : List VarId) → xs ++ [] ≡ xs
 append_none [] = refl
 append_none (x ∷ xs) = ap (λ (ys : List VarId). x ∷ ys) (append_none xs)
 
@@ -134,14 +129,14 @@ later_apart : (u : VarId) (seen vs : List VarId) → Bars u seen → AllNew seen
 later_apart u seen [] f h = tt
 later_apart u seen (v ∷ vs) f h = (f v h.0, later_apart u (seen ++ v ∷ []) vs (bars_more u v seen f) h.1)
 
-each_append : (P : VarId → Type 0) (xs ys : List VarId) → Each P xs → Each P ys → Each P (xs ++ ys)
+pub each_append : (P : VarId → Type 0) (xs ys : List VarId) → Each P xs → Each P ys → Each P (xs ++ ys)
 each_append P [] ys h g = g
 each_append P (x ∷ xs) ys h g = (h.0, each_append P xs ys h.1 g)
 
 unlisted_head : (u v : VarId) (vs : List VarId) → is_listed u (v ∷ vs) ≡ false → v.0 ≡ u.0 → ⊥
 unlisted_head u v vs h e = not_both (v.0 == u.0) ((Decides-eqb v.0 u.0).1 e) (neither (v.0 == u.0) (is_listed u vs) h).0
 
-seen_apart : (u : VarId) (seen : List VarId) → is_listed u seen ≡ false → Each (λ w. w.0 ≡ u.0 → ⊥) seen
+pub seen_apart : (u : VarId) (seen : List VarId) → is_listed u seen ≡ false → Each (λ w. w.0 ≡ u.0 → ⊥) seen
 seen_apart u [] h = tt
 seen_apart u (v ∷ vs) h = (unlisted_head u v vs h, seen_apart u vs (neither (v.0 == u.0) (is_listed u vs) h).1)
 
@@ -202,15 +197,15 @@ slack_here k i d u known b lt e single sum fits =
 
 -- ---- the first end in turn
 
-read_after : (xs : List VarId) (u : VarId) (ys : List VarId) → slice_get (xs ++ u ∷ ys) (length xs) ≡ Some u
+pub read_after : (xs : List VarId) (u : VarId) (ys : List VarId) → slice_get (xs ++ u ∷ ys) (length xs) ≡ Some u
 read_after [] u ys = refl
 read_after (x ∷ xs) u ys = read_after xs u ys
 
-within_after : (xs : List VarId) (u : VarId) (ys : List VarId) → length xs < length (xs ++ u ∷ ys)
+pub within_after : (xs : List VarId) (u : VarId) (ys : List VarId) → length xs < length (xs ++ u ∷ ys)
 within_after [] u ys = omega arith
 within_after (x ∷ xs) u ys = let h : length xs < length (xs ++ u ∷ ys) = within_after xs u ys in omega arith
 
-taken_before : (xs : List VarId) (ys : List VarId) → take (length xs) (xs ++ ys) ≡ xs
+pub taken_before : (xs : List VarId) (ys : List VarId) → take (length xs) (xs ++ ys) ≡ xs
 taken_before [] ys = refl
 taken_before (x ∷ xs) ys = ap (λ (zs : List VarId). x ∷ zs) (taken_before xs ys)
 

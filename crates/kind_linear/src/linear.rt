@@ -4,7 +4,9 @@ ghost use Rattle.kind_linear.specs.Sum.{terms_of};
 ghost use Rattle.kind_linear.specs.Output.{can_define};
 
 use crate::explained::write_sum_reason;
-use crate::relation::{Relation, is_difference, is_equality, is_kept, is_met, is_refuted, truth_over};
+use crate::relation::{
+    Relation, is_difference, is_equality, is_kept, is_met, is_refuted, truth_over,
+};
 use crate::slack::Slack;
 use crate::term::{Reading, Term, is_unit, pair_up};
 use crate::total::total_of;
@@ -39,7 +41,7 @@ impl Model for Linear {
 }
 
 impl Linear {
-    ghost use Rattle.std.specs.Prelude.{◌≡◌, ◌<◌, ◌≤◌, ◌^◌, false};
+    ghost use Rattle.std.specs.Prelude.{◌≡◌, ◌<◌, ◌≤◌, ◌^◌, false, true};
     ghost use Rattle.dom_cells.specs.Box.{cell_of};
     ghost use Rattle.kind_law.specs.Laws.{Each, AllBelow, hulls};
     ghost use Rattle.kind_law.specs.Next.{IsNext};
@@ -89,6 +91,13 @@ impl Linear {
         ensures { result ≡ self.now.relation }
     {
         self.relation
+    }
+
+    /// Whether no variable is known to come twice.
+    pub(crate) fn is_single(&self) -> bool
+        ensures { result ≡ true → HasSingles self.now }
+    {
+        self.single
     }
 
     /// The sum under intervals.
