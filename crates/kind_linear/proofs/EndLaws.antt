@@ -1,5 +1,5 @@
 -- The ends that a sum implies for a variable of one of its terms.
-use Rattle.std.proofs.Common.{◌≡◌, ℕ, suc, ◌+◌, ◌-◌, ◌*◌, ◌<◌, ◌≤◌, Bool, true, false, not, nat_lt, ℤ, pos, negsuc, neg_ℤ, ◌+ℤ◌, ◌-ℤ◌, ◌*ℤ◌, ◌<ℤ◌, ◌≤ℤ◌, int_lt, int_le, unsigned_abs, if◌then◌else◌, Option, Some, None, ◌⊎◌, inl, inr, refl, sym, ◌∙◌, ap, subst, arith, FitsSigned, w64, to_z, of_z, ◌^◌}
+use Rattle.std.proofs.Common.{◌≡◌, ℕ, suc, ◌*◌, ◌<◌, ◌≤◌, Bool, true, false, not, ℤ, pos, negsuc, neg_ℤ, ◌+ℤ◌, ◌-ℤ◌, ◌*ℤ◌, ◌<ℤ◌, ◌≤ℤ◌, int_lt, int_le, unsigned_abs, if◌then◌else◌, Some, None, ◌⊎◌, inl, inr, refl, sym, ◌∙◌, ap, arith, FitsSigned, w64, to_z, of_z, ◌^◌}
 use Rattle.std.proofs.Math.IntN.{pos-*ℤ-pos, negsuc-*ℤ-pos}
 use Rattle.std.proofs.lemmas.Int.{ints}
 use Rattle.std.specs.Int.{w128}
@@ -7,19 +7,17 @@ use Rattle.dom_cells.specs.Box.{kept}
 use Rattle.dom_cells.specs.Cell.{IsCell, IsSane, has_of, lo_of, hi_of, ends_of}
 use Rattle.dom_cells.specs.Flagged.{IsFloor, IsCeiling}
 use Rattle.dom_cells.specs.declared.start.Start.{Start}
-use Rattle.dom_cells.proofs.BoxLaws.{sane-cell, sane-ends}
+use Rattle.dom_cells.proofs.BoxLaws.{sane-cell}
 use Rattle.dom_cells.proofs.KeptLaws.{kept-lo_le, kept-hi_ge}
 use Rattle.dom_core.specs.Ends.{Ends, IsOrdered, scaled_ends}
 use Rattle.dom_core.specs.Rises.{natural_of}
-use Rattle.dom_core.specs.declared.literal.Literal.{Literal}
 use Rattle.dom_core.specs.declared.literal.Rel.TheVariants.{Le, Ge}
 use Rattle.dom_core.specs.declared.var_id.VarId.{VarId}
 use Rattle.dom_core.proofs.LiteralLaws.{holds_le, holds_ge, le_holds, ge_holds}
-use Rattle.dom_core.proofs.ProductLaws.{lt_true, scaled_ordered}
 use Rattle.dom_core.proofs.RisesLaws.{natural_is}
-use Rattle.dom_core.proofs.TestLaws.{true_or_false, not_both}
-use Rattle.kind_law.specs.Laws.{Each, hulls}
-use Rattle.kind_law.specs.Next.{below, above, size_of, IsLowEnd, IsHighEnd, IsImpliedLow, IsImpliedHigh}
+use Rattle.dom_core.proofs.TestLaws.{not_both}
+use Rattle.kind_law.specs.Laws.{Each}
+use Rattle.kind_law.specs.Next.{below, above, size_of, IsImpliedLow, IsImpliedHigh}
 use Rattle.kind_law.proofs.BoundLaws.{kept_has, kept_holds, in_kept, kept_sane, size_is}
 use Rattle.kind_linear.specs.InsertLaws.{same_ends}
 use Rattle.kind_linear.specs.Linear.{Form, form_vars, form_refuted}

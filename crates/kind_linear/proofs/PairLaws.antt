@@ -1,5 +1,5 @@
 -- Sums of two variables with small coefficients.
-use Rattle.std.proofs.Common.{◌≡◌, ℕ, ◌+◌, ◌*◌, ◌≤◌, ◌^◌, Bool, true, false, List, [], ◌∷◌, max, ℤ, pos, ◌*ℤ◌, int_lt, unsigned_abs, FitsSigned, w8, w64, if◌then◌else◌, subst, sym, ap, ◌∙◌, arith}
+use Rattle.std.proofs.Common.{◌≡◌, ℕ, ◌+◌, ◌≤◌, ◌^◌, true, false, List, [], ◌∷◌, max, ℤ, pos, ◌*ℤ◌, int_lt, unsigned_abs, FitsSigned, w8, w64, if◌then◌else◌, subst, sym, ap, ◌∙◌, arith}
 use Rattle.std.proofs.Math.Nat.{mul-le-mul}
 use Rattle.std.proofs.lemmas.Int.{ints, unsigned_abs-mul}
 use Rattle.dom_core.specs.Ends.{Ends, scaled_ends}

@@ -1,5 +1,5 @@
 -- How far a variable's end may move before a sum is refuted.
-use Rattle.std.proofs.Common.{◌≡◌, ℕ, zero, suc, ◌+◌, ◌-◌, ◌*◌, ◌/◌, ◌<◌, ◌≤◌, Bool, true, false, not, ◌&&◌, nat_lt, ℤ, pos, ◌+ℤ◌, ◌-ℤ◌, ◌<ℤ◌, ◌≤ℤ◌, int_le, int_lt, Option, Some, None, ◌⊎◌, inl, inr, refl, sym, ◌∙◌, ap, subst, arith}
+use Rattle.std.proofs.Common.{◌≡◌, ℕ, zero, suc, ◌-◌, ◌*◌, ◌/◌, ◌<◌, ◌≤◌, Bool, true, false, not, ◌&&◌, nat_lt, ℤ, pos, ◌+ℤ◌, ◌-ℤ◌, ◌≤ℤ◌, int_le, Option, Some, None, ◌⊎◌, inl, inr, refl, sym, ◌∙◌, ap, subst, arith}
 use Rattle.std.proofs.lemmas.Int.{ints}
 use Rattle.std.proofs.Math.Nat.{div-lt_iff_lt-mul, mul_comm, mul-lt-mul_of_pos_left, mul-le-mul_left}
 use Rattle.std.specs.Ordering.{int_eq}
@@ -9,7 +9,7 @@ use Rattle.dom_core.proofs.TestLaws.{le_true, true_le, false_le, and_first, and_
 use Rattle.kind_linear.specs.Reach.{moved_ends, pulled_ends, is_pulled_off, IsReach, room_of}
 use Rattle.kind_linear.specs.Relation.{refuted_by, is_only_value}
 use Rattle.kind_linear.specs.declared.reach.Pull.{Pull}
-use Rattle.kind_linear.specs.declared.relation.Relation.TheVariants.{AtMost, Equal, Differ}
+use Rattle.kind_linear.specs.declared.relation.Relation.TheVariants.{Equal, Differ}
 
 -- ---- tests of natural numbers
 

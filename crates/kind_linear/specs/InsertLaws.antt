@@ -1,5 +1,5 @@
 -- Sums with one term picked out.
-use Rattle.std.proofs.Common.{◌≡◌, ℕ, ◌+◌, ◌≤◌, Bool, true, false, List, [], ◌∷◌, ◌++◌, ℤ, pos, negsuc, ◌+ℤ◌, ◌-ℤ◌, ◌*ℤ◌, ◌≤ℤ◌, refl, sym, ◌∙◌, ap, arith}
+use Rattle.std.proofs.Common.{◌≡◌, ℕ, ◌+◌, true, List, [], ◌∷◌, ◌++◌, ℤ, pos, negsuc, ◌+ℤ◌, ◌-ℤ◌, ◌*ℤ◌, ◌≤ℤ◌, refl, ◌∙◌, ap, arith}
 use Rattle.std.proofs.Math.IntN.{zero-*ℤ}
 use Rattle.std.proofs.lemmas.Int.{ints}
 use Rattle.dom_core.specs.Assignment.{entry_at}
@@ -10,7 +10,7 @@ use Rattle.dom_core.specs.declared.var_id.VarId.{VarId}
 use Rattle.dom_core.proofs.ProductLaws.{scaled_has, neg_one-times, pos_suc-times}
 use Rattle.kind_law.specs.Laws.{Each}
 use Rattle.kind_law.proofs.ChangeLaws.{lies_low, lies_high, lies}
-use Rattle.kind_linear.specs.Sum.{arg_span, arg_ends, arg_value, ArgHas, total, sum_at, size_of, magnitude, with_arg, vars_of}
+use Rattle.kind_linear.specs.Sum.{arg_ends, arg_value, ArgHas, total, sum_at, size_of, magnitude, with_arg, vars_of}
 use Rattle.kind_linear.specs.SumLaws.{arg_has}
 use Rattle.kind_linear.specs.declared.term.Term.{Term}
 

@@ -1,5 +1,5 @@
 -- Linear equations that give one of their variables its value.
-use Rattle.std.specs.Prelude.{◌≡◌, ◌≤◌, ◌<◌, ◌+◌, ◌^◌, ◌==◌, ◌&&◌, ◌||◌, Bool, true, false, not, List, [], ◌∷◌, ◌++◌, take, drop, length, ℕ, ℤ, pos, negsuc, ◌-ℤ◌, Option, Some, None, slice_get}
+use Rattle.std.specs.Prelude.{◌≡◌, ◌≤◌, ◌+◌, ◌^◌, ◌==◌, ◌&&◌, ◌||◌, Bool, true, false, not, List, ◌∷◌, ◌++◌, take, drop, length, ℕ, ℤ, pos, negsuc, ◌-ℤ◌, Option, Some, None, slice_get}
 use Rattle.std.specs.Ordering.{int_eq}
 use Rattle.dom_core.specs.Ends.{Ends, only, difference_ends}
 use Rattle.dom_core.specs.declared.arg.Arg.{Arg}

@@ -1,23 +1,21 @@
 -- The laws of linear equations that give one of their variables its value.
-use Rattle.std.proofs.Common.{◌≡◌, ◌≤◌, ◌+◌, ◌^◌, Bool, true, false, not, List, ◌∷◌, ◌++◌, ℕ, ℤ, pos, negsuc, ◌+ℤ◌, ◌-ℤ◌, ◌*ℤ◌, ◌≤ℤ◌, int_le, refl, sym, ◌∙◌, ap, arith}
+use Rattle.std.proofs.Common.{◌≡◌, ◌≤◌, ◌+◌, ◌^◌, Bool, true, false, not, List, ◌∷◌, ◌++◌, ℕ, ℤ, pos, ◌+ℤ◌, ◌-ℤ◌, ◌*ℤ◌, ◌≤ℤ◌, refl, sym, ◌∙◌, ap, arith}
 use Rattle.std.proofs.lemmas.Int.{ints}
 use Rattle.std.specs.Ordering.{int_eq}
 use Rattle.dom_core.specs.Assignment.{entry_at}
 use Rattle.dom_cells.specs.Cell.{lo_of, hi_of, ends_of}
-use Rattle.dom_core.specs.Ends.{Ends, only, lies_in, sum_ends, scaled_ends, difference_ends}
-use Rattle.dom_core.specs.View.{IsCovered, movement_at}
-use Rattle.dom_core.specs.declared.arg.Arg.TheVariants.{Var}
-use Rattle.dom_core.specs.declared.view.Movement.{Movement}
+use Rattle.dom_core.specs.Ends.{Ends, only, lies_in, sum_ends, scaled_ends}
+use Rattle.dom_core.specs.View.{IsCovered}
 use Rattle.dom_core.proofs.ProductLaws.{neg_one-times}
 use Rattle.dom_core.proofs.RisesLaws.{same_test, int_eq_same, int_eq_from}
-use Rattle.kind_law.specs.Laws.{Each, EndsIn, AreWithin, hulls, points, befores, afters, changes, FitsLaw, ShrinkLaw, FixedLaw, KeepLaw, Covers}
-use Rattle.kind_law.specs.DefineLaws.{ValueLaw, InputLaw, RangeLaw, MonotoneLaw, ChangeLaw, FixesLaw, AreFixed, all_still, changed_by}
+use Rattle.kind_law.specs.Laws.{Each, EndsIn, hulls, points, befores, afters, changes, FitsLaw, ShrinkLaw, FixedLaw, KeepLaw}
+use Rattle.kind_law.specs.DefineLaws.{ValueLaw, InputLaw, RangeLaw, MonotoneLaw, ChangeLaw, FixesLaw, all_still}
 use Rattle.kind_law.proofs.ChangeLaws.{lies_low, lies_high, lies, changed_has, still_same}
 use Rattle.kind_law.proofs.EachLaws.{each_map}
 use Rattle.kind_linear.specs.Linear.{form_vars, FormFits, form_met, form_refuted, form_kept}
 use Rattle.kind_linear.specs.LinearLaws.{form-shrink, form-fixed, form-keep, sum_change}
 use Rattle.kind_linear.specs.InsertLaws.{same_ends, total-insert, sum_at-insert, magnitude-insert, each-insert, one_times, one_scaled, minus_scaled, sum_lies, sum_same, total_same}
-use Rattle.kind_linear.specs.Output.{Equation, sign_of, own_term, rest_of, inputs_of, form_of, IsFunctional, turned_value, turned_ends, solved_value, solved_ends, OutputFits, InputsFit, output_given, output_range, output_row, output_changed}
+use Rattle.kind_linear.specs.Output.{Equation, sign_of, own_term, rest_of, inputs_of, form_of, IsFunctional, turned_value, turned_ends, solved_value, solved_ends, OutputFits, output_given, output_range, output_row, output_changed}
 use Rattle.kind_linear.specs.Sum.{arg_ends, arg_change, total, sum_at, size_of, magnitude, vars_of}
 use Rattle.kind_linear.specs.SumLaws.{each_listed, total_within, magnitude_within, total_point}
 use Rattle.kind_linear.specs.declared.term.Reading.TheVariants.{Values}

@@ -1,5 +1,5 @@
 -- Linear relations whose truth is the value of an argument.
-use Rattle.std.specs.Prelude.{◌≡◌, Bool, true, if◌then◌else◌, List, [], ◌∷◌, ℕ, ℤ, pos, negsuc, int_le}
+use Rattle.std.specs.Prelude.{◌≡◌, Bool, true, if◌then◌else◌, List, ℕ, ℤ, pos, negsuc, int_le}
 use Rattle.std.specs.Ordering.{int_eq}
 use Rattle.dom_core.specs.Ends.{Ends, only, difference_ends}
 use Rattle.dom_core.specs.View.{movement_at}
@@ -13,7 +13,7 @@ use Rattle.kind_law.specs.DefineLaws.{all_still, changed_by}
 use Rattle.kind_law.specs.Function.{have_none, function_kept}
 use Rattle.kind_linear.specs.Linear.{Form, form_vars, form_met}
 use Rattle.kind_linear.specs.Relation.{refuted_by, certain_by}
-use Rattle.kind_linear.specs.Sum.{arg_ends, arg_change, arg_value, var_of, total, vars_of, with_new_arg}
+use Rattle.kind_linear.specs.Sum.{arg_ends, arg_change, arg_value, total, with_new_arg}
 use Rattle.kind_linear.specs.declared.relation.Relation.{Relation}
 use Rattle.kind_linear.specs.declared.relation.Relation.TheVariants.{AtMost, Equal, Differ}
 

@@ -1,33 +1,32 @@
 -- The laws of linear relations whose truth is the value of an argument.
-use Rattle.std.proofs.Common.{◌≡◌, ◌≤◌, ◌==◌, Bool, true, false, not, ◌&&◌, List, [], ◌∷◌, ◌++◌, ℕ, ℤ, pos, negsuc, ◌-ℤ◌, ◌≤ℤ◌, ◌<ℤ◌, int_le, int_lt, if◌then◌else◌, refl, sym, ◌∙◌, ap, subst, arith, inl, inr}
+use Rattle.std.proofs.Common.{◌≡◌, Bool, true, false, not, List, ℕ, ℤ, pos, negsuc, ◌-ℤ◌, ◌≤ℤ◌, int_le, if◌then◌else◌, refl, sym, ◌∙◌, ap, arith, inl, inr}
 use Rattle.std.proofs.lemmas.Int.{ints}
 use Rattle.std.specs.Ordering.{int_eq}
 use Rattle.dom_core.specs.Assignment.{entry_at}
-use Rattle.dom_cells.specs.Cell.{lo_of, hi_of, ends_of, IsSane}
-use Rattle.dom_core.specs.Ends.{Ends, only, lies_in, difference_ends}
-use Rattle.dom_core.specs.View.{IsCovered, movement_at}
+use Rattle.dom_cells.specs.Cell.{lo_of, hi_of, ends_of}
+use Rattle.dom_core.specs.Ends.{Ends, only, lies_in}
+use Rattle.dom_core.specs.View.{IsCovered}
 use Rattle.dom_core.specs.declared.arg.Arg.{Arg}
 use Rattle.dom_core.specs.declared.arg.Arg.TheVariants.{Var, Const}
 use Rattle.dom_cells.specs.declared.start.Start.{Start}
 use Rattle.dom_core.specs.declared.var_id.VarId.{VarId}
 use Rattle.dom_core.specs.declared.view.Movement.{Movement}
 use Rattle.dom_cells.proofs.BoxLaws.{sane-ends}
-use Rattle.dom_core.proofs.TestLaws.{le_true, true_le, not_true, and_first, and_second, and_both, not_both, true_or_false}
-use Rattle.dom_core.proofs.ProductLaws.{lt_true}
+use Rattle.dom_core.proofs.TestLaws.{le_true, true_le, not_true, and_both, not_both, true_or_false}
 use Rattle.dom_core.proofs.RisesLaws.{int_eq_same, int_eq_from, same_test}
-use Rattle.kind_law.specs.Laws.{Each, EndsIn, AreWithin, hulls, points, point, befores, afters, changes, FitsLaw, ShrinkLaw, FixedLaw, KeepLaw, Covers}
-use Rattle.kind_law.specs.DefineLaws.{ApartLaw, ValueLaw, InputLaw, RangeLaw, MonotoneLaw, ChangeLaw, FixesLaw, AreFixed, all_still, changed_by}
-use Rattle.kind_law.specs.Function.{have_none, function_kept}
-use Rattle.kind_law.specs.FunctionLaws.{none_smaller, none_only, none_points, IsMoved, function_keeps}
+use Rattle.kind_law.specs.Laws.{Each, EndsIn, AreWithin, hulls, points, befores, afters, changes, FitsLaw, ShrinkLaw, FixedLaw, KeepLaw, Covers}
+use Rattle.kind_law.specs.DefineLaws.{ApartLaw, ValueLaw, InputLaw, RangeLaw, MonotoneLaw, ChangeLaw, FixesLaw, all_still}
+use Rattle.kind_law.specs.Function.{have_none}
+use Rattle.kind_law.specs.FunctionLaws.{none_smaller, none_only, none_points, function_keeps}
 use Rattle.kind_law.proofs.BoundLaws.{smaller-within}
 use Rattle.kind_law.proofs.ChangeLaws.{lies_low, lies_high, lies, changed_has, still_same, difference_has}
 use Rattle.kind_law.proofs.EachLaws.{each_map}
 use Rattle.kind_linear.specs.Linear.{Form, form_vars, FormFits, form_met}
 use Rattle.kind_linear.specs.LinearLaws.{form-fits, refuted_smaller, refuted_only, only_one, sum_change}
 use Rattle.kind_linear.specs.InsertLaws.{same_ends, sum_lies, sum_same, total_same}
-use Rattle.kind_linear.specs.Relation.{is_related, refuted_by, certain_by, is_only_value}
+use Rattle.kind_linear.specs.Relation.{is_related, refuted_by, certain_by}
 use Rattle.kind_linear.specs.Reified.{Truth, truth_vars, number_of, truth_ends, truth_given, truth_over, truth_range, truth_row, truth_changed, truth_movement, arg_movement, truth_met, truth_refuted, truth_kept, IsApart, IsGiver}
-use Rattle.kind_linear.specs.Sum.{arg_ends, arg_change, arg_value, ArgHas, var_of, total, sum_at, vars_of, with_new_arg, with_new}
+use Rattle.kind_linear.specs.Sum.{arg_ends, arg_change, arg_value, ArgHas, var_of, total, sum_at, vars_of}
 use Rattle.kind_linear.specs.SumLaws.{each_listed, each_new_arg, total_within, total_point}
 use Rattle.kind_linear.specs.declared.relation.Relation.{Relation}
 use Rattle.kind_linear.specs.declared.relation.Relation.TheVariants.{AtMost, Equal, Differ}

@@ -1,5 +1,5 @@
 -- Sums of which the interval is known, and one of whose terms changes.
-use Rattle.std.specs.Prelude.{◌≡◌, List, [], ◌∷◌, ◌++◌, ℕ, ℤ, pos, ◌+ℤ◌, ◌-ℤ◌, Bool, true, unsigned_abs, length, Option, None, Some, slice_index_or}
+use Rattle.std.specs.Prelude.{◌≡◌, List, ◌∷◌, ◌++◌, ℕ, ℤ, pos, ◌+ℤ◌, ◌-ℤ◌, Bool, true, unsigned_abs, length, Option, None, slice_index_or}
 use Rattle.dom_core.specs.Ends.{Ends}
 use Rattle.dom_core.specs.declared.arg.Arg.{Arg}
 use Rattle.dom_core.specs.declared.arg.Arg.TheVariants.{Var, Const}

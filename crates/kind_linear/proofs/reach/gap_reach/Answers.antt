@@ -1,5 +1,4 @@
-use Rattle.std.proofs.Common.{rules, ◌≡◌, ◌∙◌, sym, ap, true, false}
-use Rattle.dom_core.specs.Ends.{Ends}
+use Rattle.std.proofs.Common.{rules, ◌≡◌, true, false}
 use Rattle.kind_linear.specs.Reach.{pulled_ends}
 use Rattle.kind_linear.specs.Relation.{is_only_value}
 use Rattle.kind_linear.proofs.ReachLaws.{last_step, no_step}

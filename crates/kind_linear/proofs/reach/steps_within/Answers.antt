@@ -1,4 +1,4 @@
-use Rattle.std.proofs.Common.{rules, ◌*◌, ◌<◌, arith}
+use Rattle.std.proofs.Common.{rules, ◌*◌, ◌<◌}
 use Rattle.kind_linear.proofs.ReachLaws.{steps_fit}
 use Rattle.kind_linear.proofs.reach.steps_within.Goals as goal
 

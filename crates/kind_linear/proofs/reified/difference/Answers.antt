@@ -1,6 +1,6 @@
-use Rattle.std.proofs.Common.{rules, ◌≡◌, ◌∙◌, ap, subst, sym, ◌≤ℤ◌, ◌-ℤ◌, FitsSigned, ℤ}
+use Rattle.std.proofs.Common.{rules, ◌∙◌, FitsSigned}
 use Rattle.std.specs.Int.{w128}
-use Rattle.dom_core.specs.Ends.{Ends, difference_ends}
+use Rattle.dom_core.specs.Ends.{difference_ends}
 use Rattle.kind_linear.specs.InsertLaws.{same_ends}
 use Rattle.kind_linear.proofs.RunLaws.{difference_fits, few_bits, cast_difference, difference_order}
 use Rattle.kind_linear.proofs.reified.difference.Goals as goal

@@ -1,6 +1,5 @@
-use Rattle.std.proofs.Common.{rules, ◌≡◌, ◌∙◌, sym, ap, subst, ◌+ℤ◌, ◌-ℤ◌, ◌<ℤ◌, ◌≤ℤ◌, ◌<◌, ◌^◌, ℤ, pos, FitsSigned, w64, to_z, of_z}
+use Rattle.std.proofs.Common.{rules, ◌∙◌, sym, ap, subst, ◌+ℤ◌, ◌<ℤ◌, ◌≤ℤ◌, ◌<◌, ◌^◌, ℤ, pos, FitsSigned, w64, to_z, of_z}
 use Rattle.std.proofs.lemmas.Int.{to_z-of_z}
-use Rattle.std.specs.Int.{w128}
 use Rattle.dom_cells.specs.Cell.{lo_of, hi_of, has_of}
 use Rattle.dom_cells.specs.Box.{cell_of}
 use Rattle.dom_cells.specs.Flagged.{IsFloor}

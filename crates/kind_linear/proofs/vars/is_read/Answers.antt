@@ -1,4 +1,4 @@
-use Rattle.std.proofs.Common.{◌≡◌, ◌∙◌, sym, pos}
+use Rattle.std.proofs.Common.{◌∙◌, sym, pos}
 use Rattle.dom_core.specs.declared.arg.Arg.TheVariants.{Var}
 use Rattle.kind_linear.specs.declared.term.Term.{Term}
 use Rattle.kind_linear.proofs.VarLaws.{read_here, read_later}

@@ -1,4 +1,4 @@
-use Rattle.std.proofs.Common.{rules, ◌≡◌, ◌∙◌, sym, ◌<◌, ◌≤◌, length, pos}
+use Rattle.std.proofs.Common.{rules, ◌∙◌, sym, ◌<◌, ◌≤◌, length, pos}
 use Rattle.dom_cells.specs.Box.{cell_of}
 use Rattle.dom_core.specs.declared.arg.Arg.TheVariants.{Var}
 use Rattle.kind_linear.specs.Linear.{form_refuted}

@@ -1,14 +1,11 @@
-use Rattle.std.proofs.Common.{rules, ◌≡◌, ◌∙◌, ap, ◌<◌, length, ℤ, List, FitsSigned, w64}
+use Rattle.std.proofs.Common.{rules, ◌≡◌, ◌∙◌, ap, ℤ, FitsSigned, w64}
 use Rattle.std.proofs.lemmas.Int.{to_z-of_z}
 use Rattle.std.specs.Int.{w128}
-use Rattle.dom_core.specs.Ends.{Ends, only}
-use Rattle.dom_core.specs.Assignment.{entry_at}
+use Rattle.dom_core.specs.Ends.{Ends}
 use Rattle.kind_linear.specs.Linear.{Form, form_vars}
 use Rattle.kind_linear.specs.Relation.{is_related}
-use Rattle.kind_linear.specs.Sum.{arg_span, total, sum_at, vars_of}
-use Rattle.kind_linear.specs.SumLaws.{each_listed, each_unit, total_point}
-use Rattle.kind_linear.specs.declared.term.Reading.TheVariants.{Values}
-use Rattle.kind_linear.specs.declared.term.Term.{Term}
+use Rattle.kind_linear.specs.Sum.{sum_at}
+use Rattle.kind_linear.specs.SumLaws.{each_unit, total_point}
 use Rattle.kind_linear.proofs.linear.LinearKind.holds.Goals as goal
 
 pub total-sum-requires-clause-ready : goal.total-sum-requires-clause-ready

@@ -1,4 +1,4 @@
-use Rattle.std.proofs.Common.{rules, ◌≡◌, ◌∙◌, ap, ◌<◌, ◌≤◌, ◌+◌, length, List, arith, FitsSigned, w64}
+use Rattle.std.proofs.Common.{rules, ◌≡◌, ◌∙◌, ap, ◌≤◌, ◌+◌, arith, FitsSigned, w64}
 use Rattle.std.proofs.lemmas.Int.{to_z-of_z}
 use Rattle.dom_core.specs.Ends.{Ends, difference_ends}
 use Rattle.kind_law.specs.Laws.{EndsIn, befores, afters, changes}
@@ -7,7 +7,6 @@ use Rattle.kind_linear.specs.Relation.{kept_by}
 use Rattle.kind_linear.specs.Sum.{arg_span, total, magnitude, vars_of}
 use Rattle.kind_linear.specs.SumLaws.{each_listed, each_unit, magnitude_change}
 use Rattle.kind_linear.specs.declared.term.Reading.TheVariants.{Values, Changes}
-use Rattle.kind_linear.specs.declared.term.Term.{Term}
 use Rattle.kind_linear.proofs.linear.LinearKind.keeps.Goals as goal
 
 pub total-change-requires-clause-ready : goal.total-change-requires-clause-ready

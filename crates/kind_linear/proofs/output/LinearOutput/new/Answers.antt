@@ -3,7 +3,7 @@ use Rattle.std.proofs.lemmas.Int.{to_z-of_z}
 use Rattle.dom_core.specs.declared.arg.Arg.TheVariants.{Var}
 use Rattle.dom_core.specs.declared.var_id.VarId.{VarId}
 use Rattle.kind_linear.specs.Linear.{Form}
-use Rattle.kind_linear.specs.Output.{Equation, form_of, others_at, inputs_of, IsSolved, IsEquation}
+use Rattle.kind_linear.specs.Output.{Equation, others_at, IsSolved}
 use Rattle.kind_linear.specs.Sum.{var_of, vars_of, distinct}
 use Rattle.kind_linear.specs.declared.term.Term.{Term}
 use Rattle.kind_linear.proofs.SolvedLaws.{equation_at, solved_is}

@@ -1,4 +1,4 @@
-use Rattle.std.proofs.Common.{◌≡◌, ◌∙◌, ap, ◌<◌, ◌≤◌, ◌^◌, List, arith}
+use Rattle.std.proofs.Common.{◌≡◌, ◌∙◌, ap, ◌<◌, ◌≤◌, List, arith}
 use Rattle.kind_linear.specs.Output.{rest_of}
 use Rattle.kind_linear.specs.Sum.{arg_span, total, magnitude, vars_of, size_of}
 use Rattle.kind_linear.specs.SumLaws.{each_listed, total_size}

@@ -1,4 +1,4 @@
-use Rattle.std.proofs.Common.{◌≡◌, ◌∙◌, ap, ◌<◌, ◌≤◌, ◌+◌, ◌^◌, arith}
+use Rattle.std.proofs.Common.{◌≤◌, ◌+◌, arith}
 use Rattle.dom_core.specs.Ends.{difference_ends}
 use Rattle.kind_law.specs.Laws.{EndsIn, befores, afters, changes}
 use Rattle.kind_linear.specs.Output.{rest_of, inputs_of}

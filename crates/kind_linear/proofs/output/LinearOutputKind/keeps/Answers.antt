@@ -1,4 +1,4 @@
-use Rattle.std.proofs.Common.{◌≡◌, ◌∙◌, ap, sym, subst}
+use Rattle.std.proofs.Common.{◌∙◌, ap, sym, subst}
 use Rattle.kind_law.specs.Laws.{befores, afters}
 use Rattle.kind_linear.specs.Linear.{Form, FormFits, form_kept}
 use Rattle.kind_linear.specs.Output.{form_of}

@@ -1,5 +1,4 @@
-use Rattle.std.proofs.Common.{◌≡◌, ap, sym, subst, ◌<◌, length}
-use Rattle.dom_core.specs.declared.arg.Arg.{Arg}
+use Rattle.std.proofs.Common.{ap, sym, subst, ◌<◌, length}
 use Rattle.dom_core.specs.View.{movement_at}
 use Rattle.kind_law.specs.Laws.{IsTrueChange}
 use Rattle.kind_linear.specs.Linear.{form_vars}

@@ -1,5 +1,4 @@
-use Rattle.std.proofs.Common.{◌≡◌, ap, sym, subst, ◌<◌, length}
-use Rattle.dom_core.specs.declared.arg.Arg.{Arg}
+use Rattle.std.proofs.Common.{ap, sym, subst, ◌<◌}
 use Rattle.dom_cells.specs.Cell.{IsSane}
 use Rattle.kind_linear.specs.Linear.{form_vars}
 use Rattle.kind_linear.specs.Reified.{Truth}

@@ -1,7 +1,6 @@
-use Rattle.std.proofs.Common.{rules, ◌≡◌, sym, subst, ℕ, ℤ, pos, int_lt, Option, None, Some, FitsSigned, w64, to_z, of_z}
+use Rattle.std.proofs.Common.{rules, ◌≡◌, sym, subst, ℤ, pos, int_lt, None, Some, FitsSigned, w64}
 use Rattle.std.proofs.lemmas.Int.{to_z-of_z}
 use Rattle.dom_cells.specs.Box.{cell_of}
-use Rattle.dom_core.specs.declared.literal.Literal.{Literal}
 use Rattle.dom_core.specs.declared.literal.Rel.TheVariants.{Ge}
 use Rattle.kind_law.specs.Next.{size_of, IsImpliedLow}
 use Rattle.kind_linear.specs.Linear.{form_refuted}

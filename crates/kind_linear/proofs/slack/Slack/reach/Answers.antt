@@ -1,11 +1,8 @@
-use Rattle.std.proofs.Common.{rules, ◌≡◌, ◌∙◌, ap, subst, ℕ, ◌*◌, ◌<◌, length, unsigned_abs, FitsSigned, w64, to_z, of_z}
+use Rattle.std.proofs.Common.{rules, ◌≡◌, ◌∙◌, ap, unsigned_abs, FitsSigned, w64}
 use Rattle.std.proofs.lemmas.Int.{to_z-of_z}
 use Rattle.dom_cells.specs.Box.{cell_of}
-use Rattle.dom_core.specs.Ends.{IsOrdered}
-use Rattle.kind_law.specs.Next.{size_of}
 use Rattle.kind_law.proofs.BoundLaws.{box-sane}
 use Rattle.kind_linear.specs.Linear.{form_vars}
-use Rattle.kind_linear.specs.Reach.{moved_ends}
 use Rattle.kind_linear.proofs.SlackLaws.{known_size}
 use Rattle.kind_linear.proofs.EndLaws.{order_kept}
 use Rattle.kind_linear.proofs.slack.Slack.reach.Goals as goal
