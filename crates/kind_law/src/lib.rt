@@ -17,7 +17,7 @@ pub use define::Define;
 pub use ends::{explain_end, failing, reach};
 pub use function::{are_apart, is_function_kept};
 pub use kind::Kind;
-pub use next::{first_end, next_of};
+pub use next::{end_of_var, first_end, next_of};
 pub use probe::Probe;
 pub use propagate::Propagate;
 pub use reason::{add_implied, reason_of};

@@ -26,6 +26,15 @@ pub fn next_of<K: Kind>(kind: &K, cells: &Cells) -> Option<Literal>
     None
 }
 
+/// The end of one variable's cell that the kind implies, the lower one first, found by asking about the whole box.
+pub fn end_of_var<K: Kind>(kind: &K, cells: &Cells, var: VarId) -> Option<Literal>
+    requires var { IsReadable (K.vars kind.now) (length cells.now.starts) var }
+    requires fits { K.fits kind.now (hulls (cell_of cells.now)) }
+    ensures { IsFirstEnd (K.refuted kind.now) (cell_of cells.now) var result }
+{
+    first_end(&Whole(kind), cells, var)
+}
+
 /// The end of the variable's cell that is implied, the lower one first. A kind that can tell quickly whether a box with one
 /// bound more is refuted finds its ends by it.
 pub fn first_end<P: Probe>(probe: &P, cells: &Cells, var: VarId) -> Option<Literal>

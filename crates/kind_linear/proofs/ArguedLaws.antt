@@ -1,5 +1,5 @@
 -- What the reason of a truth leaves is refuted.
-use Rattle.std.proofs.Common.{◌≡◌, ℕ, ◌<◌, ◌≤◌, Bool, true, false, not, ◌||◌, List, [], ◌∷◌, ◌++◌, length, ℤ, pos, ◌+ℤ◌, ◌-ℤ◌, ◌<ℤ◌, ◌≤ℤ◌, int_lt, if◌then◌else◌, refl, sym, ◌∙◌, ap, subst, arith, Option}
+use Rattle.std.proofs.Common.{◌≡◌, ◌<◌, Bool, true, false, List, ◌++◌, length, ℤ, pos, ◌<ℤ◌, ◌≤ℤ◌, int_lt, if◌then◌else◌, subst, arith, Option}
 use Rattle.std.proofs.lemmas.Int.{ints}
 use Rattle.std.specs.Option.{option_to_list}
 use Rattle.dom_core.specs.Ends.{Ends}
@@ -10,16 +10,16 @@ use Rattle.dom_core.proofs.RisesLaws.{or_left, or_right}
 use Rattle.dom_cells.specs.Box.{Trailed, IsBox, cell_of, against}
 use Rattle.kind_law.specs.Function.{have_none}
 use Rattle.kind_law.specs.Laws.{AllBelow, Each, hulls}
-use Rattle.kind_law.specs.Reason.{IsCause, IsRead, IsReason, IsOpen, AllFine, AddsFine, CoversEnd, asked}
+use Rattle.kind_law.specs.Reason.{IsCause, IsRead, IsReason, IsOpen, AllFine, AddsFine, asked}
 use Rattle.kind_law.specs.declared.side.Side.{Side}
 use Rattle.kind_law.specs.declared.side.Side.TheVariants.{Low, High}
 use Rattle.kind_law.proofs.EachLaws.{each_map}
 use Rattle.dom_cells.specs.Cell.{IsSane}
 use Rattle.kind_linear.specs.declared.relation.Relation.{Relation}
-use Rattle.kind_law.proofs.EndLaws.{IsAgainst, sane_asked, against_is, cause_open, end_reason, left_fewer}
-use Rattle.kind_linear.specs.Explained.{edge, AreLeft, ArgCovers, EdgeNear, IsCertainExcess, IsExcess, IsVerdict, PaysAll}
+use Rattle.kind_law.proofs.EndLaws.{sane_asked, against_is, cause_open, end_reason, left_fewer}
+use Rattle.kind_linear.specs.Explained.{AreLeft, ArgCovers, EdgeNear, IsCertainExcess, IsExcess, IsVerdict, PaysAll}
 use Rattle.kind_linear.specs.Linear.{Form, form_vars}
-use Rattle.kind_linear.specs.Reified.{Truth, truth_ends, truth_over, truth_refuted}
+use Rattle.kind_linear.specs.Reified.{Truth, truth_ends, truth_refuted}
 use Rattle.kind_linear.specs.Relation.{certain_by, refuted_by}
 use Rattle.kind_linear.specs.Sum.{ArgHas, arg_ends, total, vars_of}
 use Rattle.kind_linear.specs.SumLaws.{each_listed}

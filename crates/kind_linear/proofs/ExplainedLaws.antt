@@ -1,11 +1,11 @@
 -- What a sum's reason leaves is refuted.
-use Rattle.std.proofs.Common.{◌≡◌, ℕ, zero, suc, ◌+◌, ◌*◌, ◌<◌, ◌≤◌, ◌^◌, Bool, true, false, not, List, [], ◌∷◌, ◌++◌, length, drop, get_or, ℤ, pos, negsuc, ◌+ℤ◌, ◌-ℤ◌, ◌*ℤ◌, ◌<ℤ◌, ◌≤ℤ◌, int_lt, if◌then◌else◌, unsigned_abs, refl, sym, ◌∙◌, ap, subst, arith, inl, inr, ◌⊎◌, Option}
+use Rattle.std.proofs.Common.{◌≡◌, ℕ, zero, suc, ◌+◌, ◌*◌, ◌<◌, ◌≤◌, Bool, true, false, not, List, [], ◌∷◌, ◌++◌, length, drop, get_or, ℤ, pos, negsuc, ◌+ℤ◌, ◌-ℤ◌, ◌*ℤ◌, ◌<ℤ◌, ◌≤ℤ◌, int_lt, if◌then◌else◌, unsigned_abs, refl, sym, ◌∙◌, ap, subst, arith, inl, inr, Option}
 use Rattle.std.proofs.Math.IntN.{zero-*ℤ}
 use Rattle.std.proofs.lemmas.Int.{ints}
 use Rattle.std.proofs.lemmas.Grind.{common_steps}
 use Rattle.std.proofs.lemmas.List.{drop_more}
 use Rattle.std.specs.Option.{option_to_list}
-use Rattle.dom_core.specs.Ends.{Ends, sum_ends, scaled_ends, lies_in}
+use Rattle.dom_core.specs.Ends.{Ends, sum_ends, scaled_ends}
 use Rattle.dom_core.specs.declared.arg.Arg.{Arg}
 use Rattle.dom_core.specs.declared.arg.Arg.TheVariants.{Var, Const}
 use Rattle.dom_core.specs.declared.literal.Literal.{Literal}
@@ -13,7 +13,7 @@ use Rattle.dom_core.specs.declared.var_id.VarId.{VarId}
 use Rattle.dom_core.proofs.ProductLaws.{lt_true, lt_false, pos_suc-times, neg_one-times, neg_suc-times, times_up, times_down}
 use Rattle.dom_core.proofs.TestLaws.{true_or_false}
 use Rattle.dom_cells.specs.Box.{Trailed, IsBox, cell_of, against}
-use Rattle.dom_cells.specs.Cell.{IsCell, IsSane, has_of, lo_of, hi_of, ends_of}
+use Rattle.dom_cells.specs.Cell.{IsCell, lo_of, hi_of, ends_of}
 use Rattle.dom_cells.specs.declared.start.Start.{Start}
 use Rattle.dom_cells.proofs.BoxLaws.{sane-cell}
 use Rattle.kind_law.specs.Laws.{Each, AllBelow, hulls}
@@ -25,7 +25,6 @@ use Rattle.kind_law.proofs.EndLaws.{IsAgainst, against_is, cause_open, cause_ref
 use Rattle.kind_linear.specs.Explained.{edge, edge_side, AreLeft, EdgeNear, Pays, PaysAll, IsExcess}
 use Rattle.kind_linear.specs.Linear.{Form, form_vars, form_refuted}
 use Rattle.kind_linear.specs.Relation.{refuted_by}
-use Rattle.kind_linear.specs.Output.{is_difference}
 use Rattle.kind_linear.specs.Sum.{ArgHas, arg_ends, total, vars_of}
 use Rattle.kind_linear.specs.SumLaws.{arg_has, each_listed, times_difference}
 use Rattle.kind_linear.specs.declared.relation.Relation.{Relation}

@@ -5,6 +5,8 @@ pub mod SeenLaws
 pub mod VarLaws
 pub mod SolvedLaws
 pub mod SlackLaws
+pub mod ReplacedLaws
+pub mod TruthNextLaws
 pub mod ReachLaws
 pub mod EndLaws
 pub mod PairLaws

@@ -85,7 +85,7 @@ too_few a b c h e = omega arith
 one_more : (a b c d : ℕ) → a ≡ b + suc c → d ≡ b + 1 → a ≡ d + c
 one_more a b c d e f = omega arith
 
-append_none : (xs : List VarId) → xs ++ [] ≡ xs
+pub append_none : (xs : List VarId) → xs ++ [] ≡ xs
 append_none [] = refl
 append_none (x ∷ xs) = ap (λ (ys : List VarId). x ∷ ys) (append_none xs)
 
@@ -129,14 +129,14 @@ later_apart : (u : VarId) (seen vs : List VarId) → Bars u seen → AllNew seen
 later_apart u seen [] f h = tt
 later_apart u seen (v ∷ vs) f h = (f v h.0, later_apart u (seen ++ v ∷ []) vs (bars_more u v seen f) h.1)
 
-each_append : (P : VarId → Type 0) (xs ys : List VarId) → Each P xs → Each P ys → Each P (xs ++ ys)
+pub each_append : (P : VarId → Type 0) (xs ys : List VarId) → Each P xs → Each P ys → Each P (xs ++ ys)
 each_append P [] ys h g = g
 each_append P (x ∷ xs) ys h g = (h.0, each_append P xs ys h.1 g)
 
 unlisted_head : (u v : VarId) (vs : List VarId) → is_listed u (v ∷ vs) ≡ false → v.0 ≡ u.0 → ⊥
 unlisted_head u v vs h e = not_both (v.0 == u.0) ((Decides-eqb v.0 u.0).1 e) (neither (v.0 == u.0) (is_listed u vs) h).0
 
-seen_apart : (u : VarId) (seen : List VarId) → is_listed u seen ≡ false → Each (λ w. w.0 ≡ u.0 → ⊥) seen
+pub seen_apart : (u : VarId) (seen : List VarId) → is_listed u seen ≡ false → Each (λ w. w.0 ≡ u.0 → ⊥) seen
 seen_apart u [] h = tt
 seen_apart u (v ∷ vs) h = (unlisted_head u v vs h, seen_apart u vs (neither (v.0 == u.0) (is_listed u vs) h).1)
 
@@ -197,15 +197,15 @@ slack_here k i d u known b lt e single sum fits =
 
 -- ---- the first end in turn
 
-read_after : (xs : List VarId) (u : VarId) (ys : List VarId) → slice_get (xs ++ u ∷ ys) (length xs) ≡ Some u
+pub read_after : (xs : List VarId) (u : VarId) (ys : List VarId) → slice_get (xs ++ u ∷ ys) (length xs) ≡ Some u
 read_after [] u ys = refl
 read_after (x ∷ xs) u ys = read_after xs u ys
 
-within_after : (xs : List VarId) (u : VarId) (ys : List VarId) → length xs < length (xs ++ u ∷ ys)
+pub within_after : (xs : List VarId) (u : VarId) (ys : List VarId) → length xs < length (xs ++ u ∷ ys)
 within_after [] u ys = omega arith
 within_after (x ∷ xs) u ys = let h : length xs < length (xs ++ u ∷ ys) = within_after xs u ys in omega arith
 
-taken_before : (xs : List VarId) (ys : List VarId) → take (length xs) (xs ++ ys) ≡ xs
+pub taken_before : (xs : List VarId) (ys : List VarId) → take (length xs) (xs ++ ys) ≡ xs
 taken_before [] ys = refl
 taken_before (x ∷ xs) ys = ap (λ (zs : List VarId). x ∷ zs) (taken_before xs ys)
 

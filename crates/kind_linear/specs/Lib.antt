@@ -12,6 +12,7 @@ pub mod Seen
 pub mod Slack
 pub mod Sum
 pub mod SumLaws
+pub mod TruthNext
 pub use Rattle.dom_core.specs.Ends
 pub use Rattle.dom_core.specs.Assignment
 pub use Rattle.kind_law.specs.Laws

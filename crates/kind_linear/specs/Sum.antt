@@ -1,5 +1,5 @@
 -- Sums of terms.
-use Rattle.std.specs.Prelude.{◌+◌, ◌==◌, Bool, true, false, if◌then◌else◌, List, [], ◌∷◌, ◌++◌, max, ℕ, ℤ, pos, ◌+ℤ◌, ◌*ℤ◌, unsigned_abs}
+use Rattle.std.specs.Prelude.{◌+◌, ◌==◌, Bool, true, false, not, if◌then◌else◌, List, [], ◌∷◌, ◌++◌, max, ℕ, ℤ, pos, ◌+ℤ◌, ◌*ℤ◌, unsigned_abs}
 use Rattle.std.specs.List.{list_any}
 use Rattle.dom_core.specs.Assignment.{entry_at}
 use Rattle.dom_core.specs.Ends.{Ends, only, sum_ends, scaled_ends}
@@ -95,6 +95,11 @@ with_new seen v = if is_listed v seen then seen else seen ++ v ∷ []
 abbrev pub with_new_arg : List VarId → Arg → List VarId
 with_new_arg seen (Var x) = with_new seen x
 with_new_arg seen (Const c) = seen
+
+-- the argument is none of the variables
+abbrev pub is_new : List VarId → Arg → Bool
+is_new vars (Var x) = not (is_listed x vars)
+is_new vars (Const c) = true
 
 -- the variables seen, and then those of the list that are new
 abbrev pub collected : List VarId → List VarId → List VarId

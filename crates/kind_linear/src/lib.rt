@@ -17,6 +17,10 @@ mod term;
 #[cfg(test)]
 mod tests;
 mod total;
+mod truth_next;
+mod truth_probe;
+#[cfg(test)]
+mod truth_tests;
 mod vars;
 
 pub use linear::Linear;

@@ -41,7 +41,7 @@ impl Model for Linear {
 }
 
 impl Linear {
-    ghost use Rattle.std.specs.Prelude.{◌≡◌, ◌<◌, ◌≤◌, ◌^◌, false};
+    ghost use Rattle.std.specs.Prelude.{◌≡◌, ◌<◌, ◌≤◌, ◌^◌, false, true};
     ghost use Rattle.dom_cells.specs.Box.{cell_of};
     ghost use Rattle.kind_law.specs.Laws.{Each, AllBelow, hulls};
     ghost use Rattle.kind_law.specs.Next.{IsNext};
@@ -91,6 +91,13 @@ impl Linear {
         ensures { result ≡ self.now.relation }
     {
         self.relation
+    }
+
+    /// Whether no variable is known to come twice.
+    pub(crate) fn is_single(&self) -> bool
+        ensures { result ≡ true → HasSingles self.now }
+    {
+        self.single
     }
 
     /// The sum under intervals.

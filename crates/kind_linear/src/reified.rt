@@ -1,22 +1,25 @@
 //! Linear relations whose truth is the value of an argument.
-ghost use Rattle.std.specs.Prelude.{◌≡◌, ◌<◌, IfOk, length, pos};
+ghost use Rattle.std.specs.Prelude.{◌≡◌, ◌<◌, IfOk, length, pos, true};
 ghost use Rattle.dom_core.specs.Ends.{only, difference_ends};
 ghost use Rattle.kind_linear.specs.Output.{HasBits};
 ghost use Rattle.kind_linear.specs.Reified.{number_of, bound_row, truth_row, arg_movement};
 ghost use Rattle.kind_linear.specs.Sum.{terms_of, ArgHas};
+ghost use Rattle.kind_linear.specs.TruthNext.{AreSingle};
 
 use crate::argued::{Verdict, verdict_of, write_truth_reason};
 use crate::linear::Linear;
 use crate::relation::Relation;
 use crate::term::{Reading, span, var_of};
-use crate::vars::with_output;
+use crate::truth_next::next_of_terms;
+use crate::vars::{is_new, with_output};
 use dom_cells::{Cells, Hulls, Point, Region};
 use dom_core::{
     After, Arg, Assignment, Before, Changes, Clause, Interval, Intervals, Literal, Movement, VarId,
     View,
 };
 use kind_law::{
-    Define, Kind, Propagate, are_apart, are_still, change_by, is_function_kept, next_of, reason_of,
+    Define, Kind, Propagate, are_apart, are_still, change_by, end_of_var, is_function_kept,
+    next_of, reason_of,
 };
 use std::alloc::{AllocError, Global};
 use std::marker::Model;
@@ -27,17 +30,18 @@ pub struct LinearReified {
     linear: Linear,
     output: Arg,
     vars: Vec<VarId>,
+    single: bool,
 }
 
 impl Model for LinearReified {
-    ghost use Rattle.std.specs.Prelude.{◌≡◌};
-    ghost use Rattle.kind_linear.specs.Reified.{Truth, truth_vars};
+    ghost use Rattle.kind_linear.specs.Reified.{Truth};
+    ghost use Rattle.kind_linear.specs.TruthNext.{IsTruthKept};
 
     ghost Value = { Truth };
 
     ghost view = { λ k. record { form = k.linear; output = k.output } };
 
-    ghost invariant = { λ k. k.vars.items ≡ truth_vars (record { form = k.linear; output = k.output }) };
+    ghost invariant = { λ k. IsTruthKept k.vars.items k.single (record { form = k.linear; output = k.output }) };
 }
 
 impl LinearReified {
@@ -55,10 +59,12 @@ impl LinearReified {
     {
         let linear = Linear::new(alloc, coefs, args, relation, bound)?;
         let vars = with_output(alloc, linear.vars(), output)?;
+        let single = are_single(&linear, output);
         Ok(LinearReified {
             linear,
             output,
             vars,
+            single,
         })
     }
 }
@@ -121,8 +127,24 @@ impl LinearReified {
     ghost use Rattle.kind_law.specs.Laws.{AllBelow, hulls};
     ghost use Rattle.kind_law.specs.Reason.{IsCause, IsRead, IsReason, asked};
     ghost use Rattle.kind_linear.specs.Explained.{IsVerdict};
+    ghost use Rattle.kind_linear.specs.Linear.{FormFits};
     ghost use Rattle.kind_linear.specs.Reified.{truth_refuted, truth_vars};
+    ghost use Rattle.kind_linear.specs.Slack.{IsArgEnd};
     ghost use Rattle.kind_linear.specs.Sum.{arg_ends, total};
+    ghost use Rattle.kind_linear.specs.TruthNext.{AreSingle};
+
+    /// The implied end of the output, where that is a variable.
+    fn output_end(&self, cells: &Cells) -> Option<Literal>
+        requires single { AreSingle self.now }
+        requires below { AllBelow (length cells.now.starts) (truth_vars self.now) }
+        requires fits { FormFits self.now.form (hulls (cell_of cells.now)) }
+        ensures { IsArgEnd (truth_refuted self.now) (cell_of cells.now) self.now.output result }
+    {
+        match self.output {
+            Arg::Const(_) => None,
+            Arg::Var(var) => end_of_var(self, cells, var),
+        }
+    }
 
     /// Writes the reason by one end of the output and one of the sum.
     fn reason_by(
@@ -203,7 +225,14 @@ impl Kind for LinearReified {
 
 impl Propagate for LinearReified {
     fn next(&self, cells: &Cells) -> Option<Literal> {
-        next_of(self, cells)
+        if !self.single {
+            return next_of(self, cells);
+        }
+        let end = next_of_terms(&self.linear, self.output, cells);
+        if end.is_some() {
+            return end;
+        }
+        self.output_end(cells)
     }
 
     fn reason(
@@ -268,6 +297,13 @@ impl Define for LinearReified {
     ghost change_law = { truth-change };
 
     ghost fixes_law = { truth-fixes };
+}
+
+/// Whether no variable of the sum is known to come twice, and the output is none of them.
+fn are_single(linear: &Linear, output: Arg) -> bool
+    ensures { result ≡ true → AreSingle (record { form = linear.now; output = output }) }
+{
+    linear.is_single() && is_new(linear.vars(), output)
 }
 
 /// The number of a truth.

@@ -3,7 +3,7 @@ ghost use Rattle.std.specs.Prelude.{◌≡◌, ◌<◌, IfOk, OnOk, length};
 ghost use Rattle.std.specs.Ordering.{nat_cmp};
 ghost use Rattle.std.specs.BTreeSet.{contains};
 ghost use Rattle.kind_linear.specs.Seen.{TellsListed};
-ghost use Rattle.kind_linear.specs.Sum.{is_variable, vars_of, distinct, is_listed, with_new_arg};
+ghost use Rattle.kind_linear.specs.Sum.{is_variable, vars_of, distinct, is_listed, is_new, with_new_arg};
 ghost use Rattle.kind_linear.specs.Output.{is_alone, is_read_by, others_at};
 
 use crate::term::Term;
@@ -92,6 +92,16 @@ fn add_new(vars: &mut Vec<VarId>, arg: Arg) -> Result<(), AllocError>
             vars.push(var)?;
             Ok(())
         }
+    }
+}
+
+/// Whether the argument is none of the variables.
+pub(crate) fn is_new(vars: &[VarId], arg: Arg) -> bool
+    ensures { result ≡ is_new vars.now arg }
+{
+    match arg {
+        Arg::Const(_) => true,
+        Arg::Var(var) => !is_among(vars, var),
     }
 }
 

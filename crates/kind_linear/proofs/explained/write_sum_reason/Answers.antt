@@ -1,4 +1,4 @@
-use Rattle.std.proofs.Common.{rules, ◌≡◌, ◌∙◌, length, w64, FitsSigned, to_z, of_z}
+use Rattle.std.proofs.Common.{rules, ◌∙◌, length, w64, FitsSigned, to_z, of_z}
 use Rattle.std.proofs.lemmas.Int.{to_z-of_z}
 use Rattle.kind_law.proofs.ReasonLaws.{fine-from}
 use Rattle.kind_linear.proofs.ExplainedLaws.{refuted_asked, terms_below, sum_reason_of}

@@ -1,4 +1,4 @@
-use Rattle.std.proofs.Common.{◌≡◌, ◌∙◌, ap, sym, subst}
+use Rattle.std.proofs.Common.{◌∙◌, ap, sym, subst}
 use Rattle.dom_cells.specs.Box.{cell_of}
 use Rattle.kind_law.specs.Laws.{hulls}
 use Rattle.kind_linear.specs.Linear.{Form, FormFits}

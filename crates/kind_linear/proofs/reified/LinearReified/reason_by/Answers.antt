@@ -1,4 +1,4 @@
-use Rattle.std.proofs.Common.{◌≡◌, ap, sym, subst, ◌<◌, length}
+use Rattle.std.proofs.Common.{sym, subst, ◌<◌, length}
 use Rattle.dom_cells.specs.Box.{cell_of}
 use Rattle.kind_law.specs.Laws.{hulls}
 use Rattle.kind_law.specs.Reason.{IsCause, asked}

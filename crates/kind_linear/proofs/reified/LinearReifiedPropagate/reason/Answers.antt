@@ -1,4 +1,4 @@
-use Rattle.std.proofs.Common.{◌≡◌, sym, subst, ◌<◌, length}
+use Rattle.std.proofs.Common.{sym, subst, ◌<◌, length}
 use Rattle.kind_law.specs.Laws.{hulls}
 use Rattle.kind_law.specs.Reason.{asked}
 use Rattle.kind_linear.specs.Explained.{IsVerdict}

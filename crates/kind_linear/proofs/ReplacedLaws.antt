@@ -1,0 +1,89 @@
+-- Sums with one part replaced: how large they are, and what a truth makes of them.
+use Rattle.std.proofs.Common.{◌≡◌, ℕ, ◌+◌, ◌≤◌, ◌^◌, true, List, ◌++◌, ℤ, ◌+ℤ◌, ◌-ℤ◌, ◌≤ℤ◌, unsigned_abs, FitsSigned, refl, sym, ◌∙◌, ap, arith}
+use Rattle.std.proofs.lemmas.Int.{ints}
+use Rattle.std.specs.Int.{w128}
+use Rattle.dom_cells.specs.Box.{kept}
+use Rattle.dom_cells.specs.Cell.{IsPart, IsSane, ends_of}
+use Rattle.dom_cells.specs.declared.start.Start.{Start}
+use Rattle.dom_cells.proofs.BoxLaws.{cut_at-other, sane-ends}
+use Rattle.dom_core.specs.Ends.{Ends, scaled_ends}
+use Rattle.dom_core.specs.Literal.{is_end}
+use Rattle.dom_core.specs.declared.arg.Arg.{Arg}
+use Rattle.dom_core.specs.declared.arg.Arg.TheVariants.{Var, Const}
+use Rattle.dom_core.specs.declared.literal.Literal.{Literal}
+use Rattle.dom_core.specs.declared.var_id.VarId.{VarId}
+use Rattle.kind_law.specs.Function.{have_none}
+use Rattle.kind_law.specs.Laws.{EndsIn, hulls}
+use Rattle.kind_law.proofs.BoundLaws.{part, kept_has}
+use Rattle.kind_linear.specs.InsertLaws.{magnitude-insert}
+use Rattle.kind_linear.specs.Linear.{Form}
+use Rattle.kind_linear.specs.Reified.{Truth, truth_over, truth_refuted}
+use Rattle.kind_linear.specs.Slack.{replaced_ends, IsSlack}
+use Rattle.kind_linear.specs.Sum.{ArgHas, arg_ends, magnitude, size_of, total}
+use Rattle.kind_linear.specs.SumLaws.{scaled_in, smaller_size}
+use Rattle.kind_linear.specs.TruthNext.{IsTruthSlack}
+use Rattle.kind_linear.specs.declared.term.Term.{Term}
+use Rattle.kind_linear.proofs.SlackLaws.{kept_total}
+
+-- ---- how large the parts are
+
+first_of_two : (a b c : ℕ) → a ≡ b + c → a ≤ 2 ^ 101 → b ≤ 2 ^ 101
+first_of_two a b c e h = omega arith
+
+pub own_size : (k : Form) (c : ℤ) (known : Ends) (b : ℕ → Start) (u : VarId) → IsSlack k c known b u → size_of (scaled_ends c (ends_of (b u.0))) ≤ 2 ^ 101
+own_size k c known b u s =
+    let own : Term = record { coef = c; arg = Var u } in
+    first_of_two (magnitude k.terms (arg_ends (hulls b))) (size_of (scaled_ends c (ends_of (b u.0)))) (magnitude (s.front ++ s.back) (arg_ends (hulls b)))
+    (ap (λ (ts : List Term). magnitude ts (arg_ends (hulls b))) s.split ∙ magnitude-insert s.front s.back own (arg_ends (hulls b))) s.fits
+
+ends_part : (b : ℕ → Start) (l : Literal) (v : ℕ) → is_end l.rel ≡ true → IsSane (b v) → IsSane (kept b l v) → EndsIn (ends_of (kept b l v)) (ends_of (b v))
+ends_part b l v e sane cut =
+    let p : IsPart true (kept b l v) (b v) = part true (kept b l v) (b v) cut sane (λ x h. kept_has b l v x e h) in
+    record { low = p.low; order = sane-ends (kept b l v) cut; high = p.high }
+
+below_both : (a b n : ℕ) → a ≤ b → b ≤ n → a ≤ n
+below_both a b n h g = omega arith
+
+pub kept_size : (k : Form) (c : ℤ) (known : Ends) (b : ℕ → Start) (u : VarId) (l : Literal) → IsSlack k c known b u → is_end l.rel ≡ true
+    → IsSane (b u.0) → IsSane (kept b l u.0) → size_of (scaled_ends c (ends_of (kept b l u.0))) ≤ 2 ^ 101
+kept_size k c known b u l s e sane cut =
+    below_both (size_of (scaled_ends c (ends_of (kept b l u.0)))) (size_of (scaled_ends c (ends_of (b u.0)))) (2 ^ 101)
+    (smaller_size (scaled_ends c (ends_of (kept b l u.0))) (scaled_ends c (ends_of (b u.0))) (scaled_in c (ends_of (kept b l u.0)) (ends_of (b u.0)) (ends_part b l u.0 e sane cut)))
+    (own_size k c known b u s)
+
+-- ---- how large replaced sums are
+
+pub replaced_fits : (t old new : Ends) → size_of t ≤ 2 ^ 101 → size_of old ≤ 2 ^ 101 → size_of new ≤ 2 ^ 101
+    → (FitsSigned w128 (t.lo -ℤ old.lo) × FitsSigned w128 ((t.lo -ℤ old.lo) +ℤ new.lo)) × (FitsSigned w128 (t.hi -ℤ old.hi) × FitsSigned w128 ((t.hi -ℤ old.hi) +ℤ new.hi))
+replaced_fits t old new f g h =
+    let a : unsigned_abs t.lo ≤ 2 ^ 101 = omega arith in
+    let b : unsigned_abs t.hi ≤ 2 ^ 101 = omega arith in
+    let c : unsigned_abs old.lo ≤ 2 ^ 101 = omega arith in
+    let d : unsigned_abs old.hi ≤ 2 ^ 101 = omega arith in
+    let e : unsigned_abs new.lo ≤ 2 ^ 101 = omega arith in
+    let k : unsigned_abs new.hi ≤ 2 ^ 101 = omega arith in
+    ((omega (arith, ints), omega (arith, ints)), (omega (arith, ints), omega (arith, ints)))
+
+pub exchanged_order : (t old new : Ends) (lo hi : ℤ) → lo ≡ ((t.lo -ℤ old.lo) +ℤ new.lo) → hi ≡ ((t.hi -ℤ old.hi) +ℤ new.hi) → (t.lo -ℤ old.lo) ≤ℤ (t.hi -ℤ old.hi)
+    → new.lo ≤ℤ new.hi → lo ≤ℤ hi
+exchanged_order t old new lo hi e f h g = omega (arith, ints)
+
+pub exchanged_is : (r x y z a b d : ℤ) → r ≡ ((x -ℤ y) +ℤ z) → x ≡ a → y ≡ b → z ≡ d → r ≡ ((a -ℤ b) +ℤ d)
+exchanged_is r x y z a b d e f g h = omega (arith, ints)
+
+-- ---- what a truth makes of it
+
+-- the interval of another variable, or of a constant, is the same over the box with the bound
+other_same : (b : ℕ → Start) (l : Literal) (x : Arg) → ArgHas (λ w. w.0 ≡ l.var.0 → ⊥) x → arg_ends (hulls (kept b l)) x ≡ arg_ends (hulls b) x
+other_same b l (Var w) apart = ap ends_of (cut_at-other w.0 (b w.0) l apart)
+other_same b l (Const c) apart = refl
+
+-- the answer for the box with the bound
+pub truth_answer : (k : Truth) (c : ℤ) (known span : Ends) (b : ℕ → Start) (l : Literal) (old new t truth : Ends) → IsTruthSlack k c known span b l.var
+    → old ≡ scaled_ends c (ends_of (b l.var.0)) → new ≡ scaled_ends c (ends_of (kept b l l.var.0)) → t ≡ replaced_ends known old new → truth ≡ truth_over k.form t
+    → have_none truth span ≡ truth_refuted k (kept b l)
+truth_answer k c known span b l old new t truth s e f g h =
+    let sum : t ≡ total k.form.terms (arg_ends (hulls (kept b l))) =
+    g ∙ ap (λ (x : Ends). replaced_ends known x new) e ∙ ap (replaced_ends known (scaled_ends c (ends_of (b l.var.0)))) f ∙ sym (kept_total k.form c known b l.var l s.slack refl) in
+    ap (λ (x : Ends). have_none x span) (h ∙ ap (truth_over k.form) sum)
+    ∙ ap (have_none (truth_over k.form (total k.form.terms (arg_ends (hulls (kept b l)))))) (s.output ∙ sym (other_same b l k.output s.other))

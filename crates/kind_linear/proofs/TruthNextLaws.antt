@@ -1,0 +1,98 @@
+-- Where the ends that a truth implies stand among its variables.
+use Rattle.std.proofs.Common.{◌≡◌, ℕ, zero, suc, ◌<◌, Bool, true, false, List, [], ◌∷◌, ◌++◌, length, take, get_or, if◌then◌else◌, refl, sym, ◌∙◌, ap, subst, arith, Some, None, Option, is_some, slice_get}
+use Rattle.dom_core.specs.Ends.{Ends}
+use Rattle.dom_core.specs.declared.arg.Arg.{Arg}
+use Rattle.dom_core.specs.declared.arg.Arg.TheVariants.{Var, Const}
+use Rattle.dom_core.specs.declared.literal.Literal.{Literal}
+use Rattle.dom_core.specs.declared.var_id.VarId.{VarId}
+use Rattle.dom_core.proofs.TestLaws.{not_true}
+use Rattle.dom_cells.specs.declared.start.Start.{Start}
+use Rattle.kind_law.specs.Laws.{Each, AllBelow}
+use Rattle.kind_law.specs.Next.{HasNoEnd, IsNext, IsReadable}
+use Rattle.kind_law.proofs.EachLaws.{each_at}
+use Rattle.kind_law.proofs.NextLaws.{next_found, not_some}
+use Rattle.kind_linear.specs.Linear.{form_vars}
+use Rattle.kind_linear.specs.Reified.{Truth, truth_vars, truth_refuted}
+use Rattle.kind_linear.specs.Slack.{IsArgEnd}
+use Rattle.kind_linear.specs.Sum.{ArgHas, is_listed, is_new, vars_of, with_arg, with_new_arg}
+use Rattle.kind_linear.specs.TruthNext.{AreSingle, AreSpans, IsTruthSlack}
+use Rattle.kind_linear.specs.declared.term.Term.{Term}
+use Rattle.kind_linear.proofs.SlackLaws.{append_none, each_append, place_here, read_after, seen_apart, slack_here, taken_before, within_after}
+
+-- ---- lists with more variables at their end
+
+read_before : (xs ys : List VarId) (i : ℕ) (u : VarId) → slice_get xs i ≡ Some u → slice_get (xs ++ ys) i ≡ Some u
+read_before [] ys i u e = absurd (cc)
+read_before (x ∷ xs) ys zero u e = e
+read_before (x ∷ xs) ys (suc i) u e = read_before xs ys i u e
+
+taken_within : (xs ys : List VarId) (i : ℕ) → i < length xs → take i (xs ++ ys) ≡ take i xs
+taken_within [] ys i lt = absurd (omega arith)
+taken_within (x ∷ xs) ys zero lt = refl
+taken_within (x ∷ xs) ys (suc i) lt = ap (λ (zs : List VarId). x ∷ zs) (taken_within xs ys i (omega arith))
+
+longer : (xs ys : List VarId) (i : ℕ) → i < length xs → i < length (xs ++ ys)
+longer [] ys i lt = absurd (omega arith)
+longer (x ∷ xs) ys zero lt = omega arith
+longer (x ∷ xs) ys (suc i) lt = let h : i < length (xs ++ ys) = longer xs ys i (omega arith) in omega arith
+
+-- an end that is the first one stays so
+next_before : (refuted : (ℕ → Start) → Bool) (vs ys : List VarId) (b : ℕ → Start) (r : Option Literal) → is_some r ≡ true → IsNext refuted vs b r
+    → IsNext refuted (vs ++ ys) b r
+next_before refuted vs ys b None some h = absurd (cc)
+next_before refuted vs ys b (Some l) some h =
+    (h.0, longer vs ys h.0 h.1, read_before vs ys h.0 l.var h.2, subst (Each (HasNoEnd refuted b)) (sym (taken_within vs ys h.0 h.1)) h.3, h.4)
+
+-- where there is none, that of the argument is the first one
+next_after : (refuted : (ℕ → Start) → Bool) (vs : List VarId) (x : Arg) (b : ℕ → Start) (end : Option Literal) → Each (HasNoEnd refuted b) vs
+    → IsArgEnd refuted b x end → IsNext refuted (vs ++ with_arg x []) b end
+next_after refuted vs (Const c) b end none is =
+    subst (IsNext refuted (vs ++ []) b) (sym is) (subst (Each (HasNoEnd refuted b)) (sym (append_none vs)) none)
+next_after refuted vs (Var u) b None none is = each_append (HasNoEnd refuted b) vs (u ∷ []) none (is, tt)
+next_after refuted vs (Var u) b (Some l) none is =
+    next_found refuted (vs ++ u ∷ []) b (length vs) u (Some l) refl (read_after vs u []) (within_after vs u [])
+    (subst (Each (HasNoEnd refuted b)) (sym (taken_before vs (u ∷ []))) none) is
+
+-- ---- the output after the sum's variables
+
+new_last : (vs : List VarId) (x : Arg) → is_new vs x ≡ true → with_new_arg vs x ≡ vs ++ with_arg x []
+new_last vs (Var u) h = ap (λ (b : Bool). if b then vs else vs ++ u ∷ []) (not_true (is_listed u vs) h)
+new_last vs (Const c) h = sym (append_none vs)
+
+vars_are : (k : Truth) → AreSingle k → truth_vars k ≡ form_vars k.form ++ with_arg k.output []
+vars_are k s = new_last (form_vars k.form) k.output s.output
+
+pub term_end_first : (k : Truth) (b : ℕ → Start) (r : Option Literal) → AreSingle k → is_some r ≡ true → IsNext (truth_refuted k) (form_vars k.form) b r
+    → IsNext (truth_refuted k) (truth_vars k) b r
+term_end_first k b r s some h =
+    subst (λ (vs : List VarId). IsNext (truth_refuted k) vs b r) (sym (vars_are k s)) (next_before (truth_refuted k) (form_vars k.form) (with_arg k.output []) b r some h)
+
+pub output_end_last : (k : Truth) (b : ℕ → Start) (r end : Option Literal) → AreSingle k → is_some r ≡ false → IsNext (truth_refuted k) (form_vars k.form) b r
+    → IsArgEnd (truth_refuted k) b k.output end → IsNext (truth_refuted k) (truth_vars k) b end
+output_end_last k b r end s none h is =
+    subst (λ (vs : List VarId). IsNext (truth_refuted k) vs b end) (sym (vars_are k s))
+    (next_after (truth_refuted k) (form_vars k.form) k.output b end (subst (IsNext (truth_refuted k) (form_vars k.form) b) (not_some r none) h) is)
+
+-- ---- a term's variable
+
+pub term_read : (k : Truth) (n i : ℕ) (d : Term) (u : VarId) → AreSingle k → i < length k.form.terms → (get_or k.form.terms i d).arg ≡ Var u
+    → AllBelow n (truth_vars k) → IsReadable (truth_vars k) n u
+term_read k n i d u s lt e h = record {
+  below = h;
+  place = length (vars_of (take i k.form.terms));
+  reads = ap (λ (vs : List VarId). slice_get vs (length (vars_of (take i k.form.terms)))) (vars_are k s)
+      ∙ read_before (form_vars k.form) (with_arg k.output []) (length (vars_of (take i k.form.terms))) u (place_here k.form i d u lt e s.sum);
+}
+
+new_other : (vs : List VarId) (x : Arg) (i : ℕ) (u : VarId) → is_new vs x ≡ true → slice_get vs i ≡ Some u → ArgHas (λ w. w.0 ≡ u.0 → ⊥) x
+new_other vs (Var w) i u h at = λ same. each_at (λ v. v.0 ≡ w.0 → ⊥) vs i u (seen_apart w vs (not_true (is_listed w vs) h)) at (sym same)
+new_other vs (Const c) i u h at = tt
+
+-- one of the sum's terms is the only one with its variable, which isn't the output
+pub truth_slack_here : (k : Truth) (i : ℕ) (d : Term) (u : VarId) (known span : Ends) (b : ℕ → Start) → AreSingle k → i < length k.form.terms
+    → (get_or k.form.terms i d).arg ≡ Var u → AreSpans k known span b → IsTruthSlack k (get_or k.form.terms i d).coef known span b u
+truth_slack_here k i d u known span b s lt e spans = record {
+  slack = slack_here k.form i d u known b lt e s.sum spans.sum spans.fits;
+  output = spans.output;
+  other = new_other (form_vars k.form) k.output (length (vars_of (take i k.form.terms))) u s.output (place_here k.form i d u lt e s.sum);
+}

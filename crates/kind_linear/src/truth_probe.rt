@@ -1,0 +1,80 @@
+//! Truths of sums of which the interval is known: what one variable's bound makes of them.
+ghost use Rattle.std.specs.Prelude.{◌≡◌, ◌<◌, ◌≤ℤ◌, ◌+ℤ◌, ◌-ℤ◌, FitsSigned};
+ghost use Rattle.std.specs.Int.{w128};
+ghost use Rattle.dom_core.specs.Ends.{scaled_ends};
+ghost use Rattle.kind_linear.specs.Output.{HasBits};
+ghost use Rattle.kind_linear.specs.Slack.{replaced_ends};
+
+use crate::linear::Linear;
+use dom_cells::{Cells, Hulls, Kept};
+use dom_core::{Arg, Interval, Intervals, Literal, VarId};
+use kind_law::{Probe, are_apart};
+
+/// A truth, with the intervals of its sum and of its output over a box, asked about the variable of one of its terms.
+#[derive(Drop)]
+pub(crate) struct TruthProbe<'a> {
+    pub(crate) linear: &'a Linear,
+    pub(crate) output: Arg,
+    pub(crate) coef: i64,
+    pub(crate) total: Interval,
+    pub(crate) span: Interval,
+}
+
+impl Probe for TruthProbe<'_> {
+    ghost use Rattle.std.specs.Prelude.{false};
+    ghost use Rattle.dom_cells.specs.Box.{cell_of};
+    ghost use Rattle.kind_linear.specs.Reified.{truth_vars, truth_refuted};
+    ghost use Rattle.kind_linear.specs.ReifiedLaws.{truth-shrink};
+    ghost use Rattle.kind_linear.specs.TruthNext.{IsTruthSlack};
+
+    ghost vars = { λ p. truth_vars (record { form = p.linear.now; output = p.output }) };
+
+    ghost inside = { λ p v. false };
+
+    ghost refuted = { λ p. truth_refuted (record { form = p.linear.now; output = p.output }) };
+
+    ghost answers = { λ p m u. IsTruthSlack (record { form = p.linear.now; output = p.output }) p.coef p.total p.span (cell_of m) u };
+
+    fn is_refuted_within(&self, cells: &Cells, literal: Literal) -> bool {
+        let _width = cells.width();
+        let kept = Kept { cells, literal };
+        let old = part(self.coef, literal.var, &Hulls(cells));
+        let new = part(self.coef, literal.var, &Hulls(&kept));
+        let total = replaced(self.total, old, new);
+        are_apart(self.linear.truth(total), self.span)
+    }
+
+    ghost shrink_law = { λ p. truth-shrink (record { form = p.linear.now; output = p.output }) };
+}
+
+/// The interval of a term.
+fn part<I: Intervals>(coef: i64, var: VarId, intervals: &I) -> Interval
+    requires below { var.0 < I.width intervals.now }
+    requires ready { I.ready intervals.now var.0 }
+    requires bits { HasBits 101 (scaled_ends coef (I.spans intervals.now var.0)) }
+    ensures { result ≡ scaled_ends coef (I.spans intervals.now var.0) }
+{
+    intervals.interval(var).scale(coef as i128)
+}
+
+/// The interval of a sum where one of its parts is replaced by another.
+fn replaced(total: Interval, old: Interval, new: Interval) -> Interval
+    requires total { HasBits 101 total }
+    requires old { HasBits 101 old }
+    requires new { HasBits 101 new }
+    requires rest { (total.lo -ℤ old.lo) ≤ℤ (total.hi -ℤ old.hi) }
+    ensures { result ≡ replaced_ends total old new }
+{
+    let lo = exchanged(total.lo(), old.lo(), new.lo());
+    let hi = exchanged(total.hi(), old.hi(), new.hi());
+    Interval::new(lo, hi)
+}
+
+/// A sum with one of its parts exchanged.
+fn exchanged(total: i128, old: i128, new: i128) -> i128
+    requires rest { FitsSigned w128 (total -ℤ old) }
+    requires whole { FitsSigned w128 ((total -ℤ old) +ℤ new) }
+    ensures { result ≡ (total -ℤ old) +ℤ new }
+{
+    total - old + new
+}

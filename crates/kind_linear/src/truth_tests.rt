@@ -1,0 +1,139 @@
+ghost use Rattle.std.specs.Prelude.{length};
+ghost use Rattle.dom_cells.specs.Box.{cell_of};
+ghost use Rattle.dom_cells.specs.Cell.{IsInOrder};
+ghost use Rattle.kind_law.specs.Laws.{AllBelow, hulls};
+ghost use Rattle.kind_linear.specs.Linear.{FormFits};
+ghost use Rattle.kind_linear.specs.Reified.{truth_vars};
+
+use super::*;
+use dom_cells::{Cells, Start};
+use dom_core::{Arg, Literal, Rel, VarId};
+use kind_law::{Kind, Propagate};
+use std::test::Fail;
+
+const X: VarId = VarId(0);
+
+const Y: VarId = VarId(1);
+
+const Z: VarId = VarId(2);
+
+/// The end that a truth implies over cells that aren't given up.
+fn next_of_open(kind: &LinearReified, cells: &Cells) -> Result<Option<Literal>, Fail>
+    requires below { AllBelow (length cells.now.starts) (truth_vars kind.now) }
+    requires fits { FormFits kind.now.form (hulls (cell_of cells.now)) }
+{
+    if kind.refutes(cells) {
+        return Err("a box with solutions was given up".into());
+    }
+    Ok(kind.next(cells))
+}
+
+/// The end that is implied where z is the truth of 2 x + 3 y, compared with the bound, x is 0 or 1, y is at most 9, and
+/// z is this truth or still open.
+fn implied(
+    rt: &HostRuntime,
+    relation: Relation,
+    bound: i64,
+    truth: Option<bool>,
+) -> Result<Option<Literal>, Fail> {
+    let starts = [
+        Start::Span { lo: 0, hi: 1 },
+        Start::Span { lo: 0, hi: 9 },
+        output_start(truth),
+    ];
+    let cells = Cells::new(rt.alloc(), &starts)?;
+    let args = [Arg::Var(X), Arg::Var(Y)];
+    let kind = LinearReified::new(rt.alloc(), &[2, 3], &args, relation, bound, Arg::Var(Z))?;
+    next_of_open(&kind, &cells)
+}
+
+/// The values of the output.
+fn output_start(truth: Option<bool>) -> Start
+    ensures { IsInOrder result }
+{
+    match truth {
+        None => Start::Span { lo: 0, hi: 1 },
+        Some(true) => Start::Span { lo: 1, hi: 1 },
+        Some(false) => Start::Span { lo: 0, hi: 0 },
+    }
+}
+
+fn at_least(var: VarId, value: i64) -> Option<Literal> {
+    let rel = Rel::Ge;
+    Some(Literal { var, rel, value })
+}
+
+fn at_most(var: VarId, value: i64) -> Option<Literal> {
+    let rel = Rel::Le;
+    Some(Literal { var, rel, value })
+}
+
+#[test]
+fn an_open_truth_follows_a_sum_that_is_certain_or_refuted(rt: HostRuntime) -> Result<(), Fail> {
+    for (relation, bound, end) in [
+        (Relation::AtMost, 28, None),
+        (Relation::AtMost, 29, at_least(Z, 1)),
+        (Relation::AtMost, 0, None),
+        (Relation::AtMost, -1, at_most(Z, 0)),
+        (Relation::Equal, 29, None),
+        (Relation::Equal, 30, at_most(Z, 0)),
+        (Relation::Differ, 0, None),
+        (Relation::Differ, -1, at_least(Z, 1)),
+    ] {
+        let found = implied(&rt, relation, bound, None)?;
+        assert_eq!(rt; found, end, "{relation:?} {bound}");
+    }
+    Ok(())
+}
+
+#[test]
+fn a_truth_of_1_implies_the_ends_of_its_relation(rt: HostRuntime) -> Result<(), Fail> {
+    for (relation, bound, end) in [
+        (Relation::AtMost, 29, None),
+        (Relation::AtMost, 26, at_most(Y, 8)),
+        (Relation::AtMost, 7, at_most(Y, 2)),
+        (Relation::AtMost, 1, at_most(X, 0)),
+        (Relation::Equal, 29, at_least(X, 1)),
+        (Relation::Equal, 7, at_least(Y, 2)),
+        (Relation::Differ, 7, None),
+    ] {
+        let found = implied(&rt, relation, bound, Some(true))?;
+        assert_eq!(rt; found, end, "{relation:?} {bound}");
+    }
+    Ok(())
+}
+
+#[test]
+fn a_truth_of_0_implies_the_ends_of_the_opposite(rt: HostRuntime) -> Result<(), Fail> {
+    for (relation, bound, end) in [
+        (Relation::AtMost, 1, None),
+        (Relation::AtMost, 7, at_least(Y, 2)),
+        (Relation::AtMost, 26, at_least(Y, 9)),
+        (Relation::AtMost, 28, at_least(X, 1)),
+        (Relation::Equal, 7, None),
+        (Relation::Differ, 7, at_least(Y, 2)),
+        (Relation::Differ, 0, at_most(X, 0)),
+    ] {
+        let found = implied(&rt, relation, bound, Some(false))?;
+        assert_eq!(rt; found, end, "{relation:?} {bound}");
+    }
+    Ok(())
+}
+
+#[test]
+fn an_output_may_be_a_constant_or_a_variable_of_the_sum(rt: HostRuntime) -> Result<(), Fail> {
+    let starts = [Start::Span { lo: 0, hi: 1 }, Start::Span { lo: 0, hi: 9 }];
+    let cells = Cells::new(rt.alloc(), &starts)?;
+    let args = [Arg::Var(X), Arg::Var(Y)];
+    for (output, end) in [
+        (Arg::Const(1), at_most(Y, 2)),
+        (Arg::Const(0), at_least(Y, 2)),
+        (Arg::Var(X), None),
+        (Arg::Var(Y), at_least(Y, 1)),
+    ] {
+        let kind = LinearReified::new(rt.alloc(), &[2, 3], &args, Relation::AtMost, 7, output)?;
+        let found = next_of_open(&kind, &cells)?;
+        assert_eq!(rt; found, end, "{output:?}");
+    }
+    Ok(())
+}
