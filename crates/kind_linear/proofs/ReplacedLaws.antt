@@ -1,8 +1,8 @@
 -- Sums with one part replaced: how large they are, and what a truth makes of them.
-use Rattle.std.proofs.Common.{◌≡◌, ℕ, ◌+◌, ◌≤◌, ◌^◌, true, List, ◌++◌, ℤ, ◌+ℤ◌, ◌-ℤ◌, ◌≤ℤ◌, unsigned_abs, FitsSigned, refl, sym, ◌∙◌, ap, arith}
+use Rattle.std.proofs.Common.{◌≡◌, ℕ, ◌+◌, ◌≤◌, ◌^◌, true, List, ◌++◌, ℤ, ◌+ℤ◌, ◌-ℤ◌, ◌≤ℤ◌, unsigned_abs, FitsSigned, refl, sym, ◌∙◌, ap, arith, ◌<◌, length}
 use Rattle.std.proofs.lemmas.Int.{ints}
 use Rattle.std.specs.Int.{w128}
-use Rattle.dom_cells.specs.Box.{kept}
+use Rattle.dom_cells.specs.Box.{Trailed, IsBox, cell_of, kept}
 use Rattle.dom_cells.specs.Cell.{IsPart, IsSane, ends_of}
 use Rattle.dom_cells.specs.declared.start.Start.{Start}
 use Rattle.dom_cells.proofs.BoxLaws.{cut_at-other, sane-ends}
@@ -13,17 +13,18 @@ use Rattle.dom_core.specs.declared.arg.Arg.TheVariants.{Var, Const}
 use Rattle.dom_core.specs.declared.literal.Literal.{Literal}
 use Rattle.dom_core.specs.declared.var_id.VarId.{VarId}
 use Rattle.kind_law.specs.Function.{have_none}
-use Rattle.kind_law.specs.Laws.{EndsIn, hulls}
-use Rattle.kind_law.proofs.BoundLaws.{part, kept_has}
+use Rattle.kind_law.specs.Laws.{AllBelow, EndsIn, hulls}
+use Rattle.kind_law.specs.Next.{IsBound}
+use Rattle.kind_law.proofs.BoundLaws.{box-sane, part, kept_has, kept_sane}
 use Rattle.kind_linear.specs.InsertLaws.{magnitude-insert}
-use Rattle.kind_linear.specs.Linear.{Form}
-use Rattle.kind_linear.specs.Reified.{Truth, truth_over, truth_refuted}
+use Rattle.kind_linear.specs.Linear.{Form, form_vars}
+use Rattle.kind_linear.specs.Reified.{Truth, truth_vars, truth_over, truth_refuted}
 use Rattle.kind_linear.specs.Slack.{replaced_ends, IsSlack}
 use Rattle.kind_linear.specs.Sum.{ArgHas, arg_ends, magnitude, size_of, total}
-use Rattle.kind_linear.specs.SumLaws.{scaled_in, smaller_size}
+use Rattle.kind_linear.specs.SumLaws.{each_new_arg, scaled_in, smaller_size}
 use Rattle.kind_linear.specs.TruthNext.{IsTruthSlack}
 use Rattle.kind_linear.specs.declared.term.Term.{Term}
-use Rattle.kind_linear.proofs.SlackLaws.{kept_total}
+use Rattle.kind_linear.proofs.SlackLaws.{kept_total, own_has, rest_ordered}
 
 -- ---- how large the parts are
 
@@ -87,3 +88,25 @@ truth_answer k c known span b l old new t truth s e f g h =
     g ∙ ap (λ (x : Ends). replaced_ends known x new) e ∙ ap (replaced_ends known (scaled_ends c (ends_of (b l.var.0)))) f ∙ sym (kept_total k.form c known b l.var l s.slack refl) in
     ap (λ (x : Ends). have_none x span) (h ∙ ap (truth_over k.form) sum)
     ∙ ap (have_none (truth_over k.form (total k.form.terms (arg_ends (hulls (kept b l)))))) (s.output ∙ sym (other_same b l k.output s.other))
+
+-- ---- one question about a term's variable
+
+module _ (m : Trailed) (k : Truth) (c : ℤ) (known span : Ends) (l : Literal) (s : IsTruthSlack k c known span (cell_of m) l.var)
+    (asked : IsBound (truth_vars k) (length m.starts) (cell_of m) l) (sound : IsBox m) where
+  sum_below : AllBelow (length m.starts) (form_vars k.form)
+  sum_below = (each_new_arg (λ w. w.0 < length m.starts) (form_vars k.form) k.output asked.below).0
+
+  pub term_below : l.var.0 < length m.starts
+  term_below = own_has (λ w. w.0 < length m.starts) k.form c known (cell_of m) l.var s.slack sum_below
+
+  pub term_sane : IsSane (cell_of m l.var.0)
+  term_sane = sound.cells l.var.0 term_below
+
+  pub term_kept : IsSane (kept (cell_of m) l l.var.0)
+  term_kept = kept_sane (cell_of m) l l.var.0 asked.value asked.end_is asked.has asked.holds term_sane
+
+  pub kept_part : size_of (scaled_ends c (ends_of (kept (cell_of m) l l.var.0))) ≤ 2 ^ 101
+  kept_part = kept_size k.form c known (cell_of m) l.var l s.slack asked.end_is term_sane term_kept
+
+  pub other_parts : (known.lo -ℤ (scaled_ends c (ends_of (cell_of m l.var.0))).lo) ≤ℤ (known.hi -ℤ (scaled_ends c (ends_of (cell_of m l.var.0))).hi)
+  other_parts = rest_ordered k.form c known (cell_of m) l.var s.slack (box-sane m (form_vars k.form) sound sum_below)
