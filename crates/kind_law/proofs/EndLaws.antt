@@ -1,28 +1,27 @@
 -- What is told of one end of each cell.
-use Rattle.std.proofs.Common.{◌≡◌, ℕ, ◌+◌, ◌<◌, ◌≤◌, ◌==◌, Bool, true, false, not, ◌&&◌, List, [], ◌∷◌, length, get_or, ℤ, pos, ◌+ℤ◌, ◌-ℤ◌, ◌<ℤ◌, ◌≤ℤ◌, ◌⊎◌, if◌then◌else◌, refl, sym, ◌∙◌, ap, subst, arith, inl, inr, Option, Some, None, MatchOption, slice_get}
+use Rattle.std.proofs.Common.{◌≡◌, ℕ, ◌+◌, ◌<◌, ◌≤◌, ◌==◌, Bool, true, false, not, ◌&&◌, List, [], ◌∷◌, length, get_or, ℤ, pos, ◌+ℤ◌, ◌-ℤ◌, ◌<ℤ◌, ◌≤ℤ◌, ◌⊎◌, if◌then◌else◌, refl, sym, ◌∙◌, ap, subst, arith, inl, inr, Option, Some, None, slice_get}
 use Rattle.std.proofs.lemmas.Int.{ints}
-use Rattle.std.proofs.lemmas.Bool.Decides.{Decides-eqb}
 use Rattle.std.specs.Option.{option_to_list}
 use Rattle.dom_core.specs.Rises.{IsRank}
-use Rattle.dom_core.specs.Literal.{holds_at, is_end, negation, opposite, opposite_value}
+use Rattle.dom_core.specs.Literal.{holds_at, negation, opposite, opposite_value}
 use Rattle.dom_core.specs.declared.literal.Literal.{Literal}
 use Rattle.dom_core.specs.declared.literal.Rel.{Rel}
-use Rattle.dom_core.specs.declared.literal.Rel.TheVariants.{Le, Ge, Eq, Ne}
+use Rattle.dom_core.specs.declared.literal.Rel.TheVariants.{Le, Ge}
 use Rattle.dom_core.specs.declared.var_id.VarId.{VarId}
 use Rattle.dom_core.proofs.LiteralLaws.{le_holds, holds_le, ge_holds, holds_ge}
 use Rattle.dom_core.proofs.TestLaws.{not_both}
-use Rattle.dom_cells.specs.Box.{Trailed, start_at, cell_of, kept, IsBox}
-use Rattle.dom_cells.specs.Cell.{has_of, lo_of, hi_of, IsSane, IsCell, IsPossible}
+use Rattle.dom_cells.specs.Box.{Trailed, start_at, cell_of, IsBox}
+use Rattle.dom_cells.specs.Cell.{has_of, lo_of, hi_of, IsSane, IsCell}
 use Rattle.dom_cells.specs.Flagged.{IsCeiling, IsFloor}
 use Rattle.dom_cells.specs.declared.start.Start.{Start}
 use Rattle.dom_cells.specs.declared.start.Start.TheVariants.{Values}
-use Rattle.dom_cells.proofs.BoxLaws.{sane-cell, cut_at-other, same_or_other}
+use Rattle.dom_cells.proofs.BoxLaws.{sane-cell, cut_at-other}
 use Rattle.dom_cells.specs.Box.{against}
 use Rattle.dom_core.proofs.TestLaws.{and_first, and_second, and_both, not_true}
 use Rattle.dom_cells.proofs.BoxLaws.{negation-holds, sane-cut_all}
 use Rattle.dom_cells.proofs.KeptLaws.{suits_end}
 use Rattle.std.proofs.Common.{map, ◌++◌}
-use Rattle.kind_law.specs.Reason.{IsCause, IsRead, IsReason, AllFine, survives, IsOpenEnd, IsOpen, asked, IsLeft, IsReach, AddsFine, CoversEnd, CoversLow, CoversHigh, CoversValue, CoversInside, CoversBetween, CoversRanks, IsLowBound, IsHighBound, IsOwnLow, IsOwnHigh}
+use Rattle.kind_law.specs.Reason.{IsCause, IsRead, IsReason, AllFine, survives, IsOpenEnd, IsOpen, asked, IsLeft, IsReach, AddsFine, CoversEnd, CoversLow, CoversHigh, CoversValue, CoversInside, CoversBetween, CoversRanks, IsLowBound, IsHighBound}
 use Rattle.kind_law.specs.declared.side.Side.TheVariants.{Low, High}
 use Rattle.dom_core.specs.Ends.{Ends}
 use Rattle.kind_law.specs.Laws.{AllBelow, AllSane, FitsLaw, hulls}

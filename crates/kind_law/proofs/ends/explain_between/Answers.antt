@@ -1,7 +1,6 @@
-use Rattle.std.proofs.Common.{◌≡◌, ◌∙◌, sym, w64}
+use Rattle.std.proofs.Common.{◌∙◌, sym, w64}
 use Rattle.std.proofs.lemmas.Int.{to_z-of_z}
 use Rattle.dom_core.specs.Rises.{IsRank}
-use Rattle.kind_law.specs.Reason.{CoversRanks}
 use Rattle.kind_law.proofs.ReasonLaws.{span_inside}
 use Rattle.kind_law.proofs.EndLaws.{between_from_inside, between_from_ranks}
 use Rattle.kind_law.proofs.ends.explain_between.Goals as goal

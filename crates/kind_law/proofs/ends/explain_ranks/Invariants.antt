@@ -1,4 +1,3 @@
-use Rattle.std.proofs.Common.{ℕ, ◌<◌, ◌≤◌, length}
 use Rattle.kind_law.specs.Reason.{AddsFine, CoversRanks}
 use Rattle.kind_law.proofs.ends.explain_ranks.Given as goal
 

@@ -1,7 +1,7 @@
 use Rattle.std.proofs.Common.{rules, ◌≡◌, sym, ◌≤ℤ◌, ◌+ℤ◌, pos, arith, FitsSigned, w64, to_z, of_z}
-use Rattle.std.proofs.lemmas.Int.{ints, to_z-of_z}
+use Rattle.std.proofs.lemmas.Int.{ints}
 use Rattle.dom_cells.specs.Box.{cell_of}
-use Rattle.dom_cells.specs.Cell.{hi_of, IsSane}
+use Rattle.dom_cells.specs.Cell.{hi_of}
 use Rattle.kind_law.specs.Reason.{IsLowBound}
 use Rattle.std.proofs.Common.{Some}
 use Rattle.kind_law.proofs.EndLaws.{low_bound_is}

@@ -1,11 +1,10 @@
-use Rattle.std.proofs.Common.{rules, ◌≡◌, ◌∙◌, ap, subst, List, [], ◌∷◌, ℤ, FitsSigned, w8, w64, arith, to_z, of_z}
-use Rattle.std.proofs.lemmas.Int.{ints, to_z-of_z}
+use Rattle.std.proofs.Common.{rules, ◌≡◌, ◌∙◌, ap, subst, [], ◌∷◌, FitsSigned, w8, w64, arith}
+use Rattle.std.proofs.lemmas.Int.{ints}
 use Rattle.dom_cells.specs.Box.{cell_of}
 use Rattle.dom_core.specs.declared.arg.Arg.TheVariants.{Var}
 use Rattle.kind_law.specs.Laws.{hulls}
-use Rattle.kind_linear.specs.Linear.{Form, FormFits}
-use Rattle.kind_linear.specs.declared.term.Term.{Term}
-use Rattle.kind_linear.proofs.PairLaws.{pair_fits, pair_terms, IsWide}
+use Rattle.kind_linear.specs.Linear.{Form}
+use Rattle.kind_linear.proofs.PairLaws.{pair_fits, pair_terms}
 use Rattle.kind_linear.proofs.reason_tests.told_over.Goals as goal
 
 pub why-requires-clause-fits : goal.why-requires-clause-fits

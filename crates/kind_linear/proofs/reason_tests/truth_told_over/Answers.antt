@@ -1,11 +1,9 @@
-use Rattle.std.proofs.Common.{rules, ◌≡◌, ◌∙◌, ap, subst, List, [], ◌∷◌, ℤ, FitsSigned, w8, w64, arith, to_z, of_z}
-use Rattle.std.proofs.lemmas.Int.{ints, to_z-of_z}
+use Rattle.std.proofs.Common.{rules, ◌≡◌, ◌∙◌, ap, subst, [], ◌∷◌, FitsSigned, w8, w64, arith}
+use Rattle.std.proofs.lemmas.Int.{ints}
 use Rattle.dom_cells.specs.Box.{cell_of}
 use Rattle.dom_core.specs.declared.arg.Arg.TheVariants.{Var}
 use Rattle.kind_law.specs.Laws.{hulls}
-use Rattle.kind_linear.specs.Linear.{Form, FormFits}
-use Rattle.kind_linear.specs.declared.term.Term.{Term}
-use Rattle.kind_linear.proofs.PairLaws.{pair_fits, pair_terms, IsWide}
+use Rattle.kind_linear.proofs.PairLaws.{pair_fits, pair_terms}
 use Rattle.kind_linear.specs.Reified.{Truth}
 use Rattle.kind_linear.proofs.reason_tests.truth_told_over.Goals as goal
 
