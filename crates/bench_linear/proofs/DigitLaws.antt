@@ -22,8 +22,9 @@ use Rattle.kind_law.proofs.EachLaws.{each_map}
 use Rattle.kind_law.proofs.ReasonLaws.{from_start}
 use Rattle.kind_linear.specs.Linear.{Form, form_vars, FormFits}
 use Rattle.kind_linear.specs.LinearLaws.{form-fits}
-use Rattle.kind_linear.specs.Sum.{arg_ends, size_of, magnitude, terms_of, vars_of}
-use Rattle.kind_linear.specs.SumLaws.{each_distinct}
+use Rattle.kind_law.specs.Argument.{arg_ends}
+use Rattle.kind_linear.specs.Sum.{size_of, magnitude, terms_of, vars_of}
+use Rattle.kind_law.proofs.ArgumentLaws.{each_distinct}
 use Rattle.kind_linear.specs.declared.relation.Relation.{Relation}
 use Rattle.bench_linear.specs.Digits.{digit_ends, AreDigits, IsDigitSum}
 

@@ -10,7 +10,7 @@ use Rattle.dom_cells.specs.Cell.{has_of}
 use Rattle.dom_cells.specs.declared.start.Start.{Start}
 use Rattle.dom_cells.specs.declared.start.Start.TheVariants.{Span}
 use Rattle.kind_law.specs.Laws.{IsSmaller, point, Covers, FitsLaw, ShrinkLaw, FixedLaw, KeepLaw}
-use Rattle.kind_arith.specs.Argument.{vars_of, value_of, left_of, movement_of}
+use Rattle.kind_law.specs.Argument.{arg_vars, arg_value, arg_left, arg_movement}
 use Rattle.kind_arith.specs.Set.{set_meets}
 use Rattle.kind_arith.specs.SetLaws.{Common, between, meets_common, common_meets, meets_point, set_stays}
 use Rattle.kind_arith.specs.InSet.{Restriction, restricted_vars, restriction_met, restriction_refuted, restriction_kept}
@@ -23,35 +23,35 @@ pub restriction-fits : (k : Restriction) → FitsLaw (restricted_vars k) (λ s. 
 restriction-fits k small large within fits = tt
 
 -- a value left in a smaller box is left in a larger one
-left_within : (x : Arg) (small large : ℕ → Start) → IsSmaller (λ v. true) (vars_of x) small large
-    → (v : ℤ) → has_of (left_of small x) v ≡ true → has_of (left_of large x) v ≡ true
+left_within : (x : Arg) (small large : ℕ → Start) → IsSmaller (λ v. true) (arg_vars x) small large
+    → (v : ℤ) → has_of (arg_left small x) v ≡ true → has_of (arg_left large x) v ≡ true
 left_within (Var u) small large p v h = p.parts.0.values refl v h
 left_within (Const c) small large p v h = h
 
 pub restriction-shrink : (k : Restriction) → ShrinkLaw (λ v. true) (restricted_vars k) (restriction_refuted k)
-restriction-shrink k small large p h = not_false (set_meets k.set (left_of small k.arg)) (λ t.
-    (let m : Common k.set (left_of small k.arg) = meets_common k.set (left_of small k.arg) t in
-    not_both (set_meets k.set (left_of large k.arg))
-    (common_meets k.set (left_of large k.arg) (record { value = m.value; in_set = m.in_set; in_cell = left_within k.arg small large p m.value m.in_cell }))
-    (not_true (set_meets k.set (left_of large k.arg)) h)))
+restriction-shrink k small large p h = not_false (set_meets k.set (arg_left small k.arg)) (λ t.
+    (let m : Common k.set (arg_left small k.arg) = meets_common k.set (arg_left small k.arg) t in
+    not_both (set_meets k.set (arg_left large k.arg))
+    (common_meets k.set (arg_left large k.arg) (record { value = m.value; in_set = m.in_set; in_cell = left_within k.arg small large p m.value m.in_cell }))
+    (not_true (set_meets k.set (arg_left large k.arg)) h)))
 
-left_point : (a : List ℤ) (x : Arg) → left_of (point a) x ≡ Span (value_of a x) (value_of a x)
+left_point : (a : List ℤ) (x : Arg) → arg_left (point a) x ≡ Span (arg_value a x) (arg_value a x)
 left_point a (Var u) = refl
 left_point a (Const c) = refl
 
 pub restriction-fixed : (k : Restriction) → FixedLaw (restriction_refuted k) (restriction_met k)
-restriction-fixed k a = ap not (ap (set_meets k.set) (left_point a k.arg) ∙ meets_point k.set (value_of a k.arg))
+restriction-fixed k a = ap not (ap (set_meets k.set) (left_point a k.arg) ∙ meets_point k.set (arg_value a k.arg))
 
-value_after : (view : List Movement) (a b : List ℤ) (x : Arg) → Covers view (vars_of x) a b → lies_in (value_of b x) (movement_of view x).after ≡ true
+value_after : (view : List Movement) (a b : List ℤ) (x : Arg) → Covers view (arg_vars x) a b → lies_in (arg_value b x) (arg_movement view x).after ≡ true
 value_after view a b (Var u) c = c.0.after
 value_after view a b (Const v) c = between v v v (omega (arith, ints)) (omega (arith, ints))
 
-value_change : (view : List Movement) (a b : List ℤ) (x : Arg) → Covers view (vars_of x) a b
-    → lies_in (value_of b x -ℤ value_of a x) (movement_of view x).change ≡ true
+value_change : (view : List Movement) (a b : List ℤ) (x : Arg) → Covers view (arg_vars x) a b
+    → lies_in (arg_value b x -ℤ arg_value a x) (arg_movement view x).change ≡ true
 value_change view a b (Var u) c = c.0.change
 value_change view a b (Const v) c = between (pos 0) (v -ℤ v) (pos 0) (omega (arith, ints)) (omega (arith, ints))
 
 pub restriction-keep : (k : Restriction) → KeepLaw (restricted_vars k) (restriction_kept k) (restriction_met k)
 restriction-keep k view a b covers kept met =
-    set_stays k.set (movement_of view k.arg).change (movement_of view k.arg).after (value_of a k.arg) (value_of b k.arg)
+    set_stays k.set (arg_movement view k.arg).change (arg_movement view k.arg).after (arg_value a k.arg) (arg_value b k.arg)
     (value_after view a b k.arg covers) (value_change view a b k.arg covers) kept met

@@ -1,4 +1,3 @@
-pub mod Argument
 pub mod InSet
 pub mod InSetLaws
 pub mod Set

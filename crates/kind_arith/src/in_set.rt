@@ -22,7 +22,7 @@ pub struct InSet {
 
 impl Model for InSet {
     ghost use Rattle.std.specs.Prelude.{◌≡◌};
-    ghost use Rattle.kind_arith.specs.Argument.{vars_of};
+    ghost use Rattle.kind_law.specs.Argument.{arg_vars};
     ghost use Rattle.kind_arith.specs.Set.{IsPlain};
     ghost use Rattle.kind_arith.specs.InSet.{Restriction};
 
@@ -30,7 +30,7 @@ impl Model for InSet {
 
     ghost view = { λ k. record { arg = k.arg; set = k.set } };
 
-    ghost invariant = { λ k. (k.vars.items ≡ vars_of k.arg) × IsPlain k.set };
+    ghost invariant = { λ k. (k.vars.items ≡ arg_vars k.arg) × IsPlain k.set };
 }
 
 impl InSet {

@@ -1,3 +1,4 @@
+pub mod ArgumentLaws
 pub mod BoundLaws
 pub mod ChangeLaws
 pub mod EachLaws

@@ -1,3 +1,4 @@
+pub mod Argument
 pub mod DefineLaws
 pub mod Function
 pub mod FunctionLaws

@@ -1,6 +1,7 @@
 //! The traits of constraint kinds with their laws, and what follows from the laws for every kind.
 #![tactic(auto)]
 
+mod argument;
 mod change;
 mod define;
 mod ends;
@@ -12,6 +13,7 @@ mod propagate;
 mod reason;
 mod side;
 
+pub use argument::{Reading, movement_of, span, var_of};
 pub use change::{are_still, change_by};
 pub use define::Define;
 pub use ends::{explain_end, failing, reach};

@@ -21,8 +21,9 @@ use Rattle.kind_linear.specs.Explained.{AreLeft, ArgCovers, EdgeNear, IsCertainE
 use Rattle.kind_linear.specs.Linear.{Form, form_vars}
 use Rattle.kind_linear.specs.Reified.{Truth, truth_ends, truth_refuted}
 use Rattle.kind_linear.specs.Relation.{certain_by, refuted_by}
-use Rattle.kind_linear.specs.Sum.{ArgHas, arg_ends, total, vars_of}
-use Rattle.kind_linear.specs.SumLaws.{each_listed}
+use Rattle.kind_law.specs.Argument.{ArgHas, arg_ends}
+use Rattle.kind_linear.specs.Sum.{total, vars_of}
+use Rattle.kind_law.proofs.ArgumentLaws.{each_listed}
 use Rattle.kind_linear.specs.declared.argued.Verdict.{Verdict}
 use Rattle.kind_linear.specs.declared.explained.Excess.{Excess}
 use Rattle.kind_linear.specs.declared.term.Term.{Term}

@@ -25,8 +25,10 @@ use Rattle.kind_law.proofs.EndLaws.{IsAgainst, against_is, cause_open, cause_ref
 use Rattle.kind_linear.specs.Explained.{edge, edge_side, AreLeft, EdgeNear, Pays, PaysAll, IsExcess}
 use Rattle.kind_linear.specs.Linear.{Form, form_vars, form_refuted}
 use Rattle.kind_linear.specs.Relation.{refuted_by}
-use Rattle.kind_linear.specs.Sum.{ArgHas, arg_ends, total, vars_of}
-use Rattle.kind_linear.specs.SumLaws.{arg_has, each_listed, times_difference}
+use Rattle.kind_law.specs.Argument.{ArgHas, arg_ends}
+use Rattle.kind_linear.specs.Sum.{total, vars_of}
+use Rattle.kind_law.proofs.ArgumentLaws.{each_listed}
+use Rattle.kind_linear.specs.SumLaws.{arg_has, times_difference}
 use Rattle.kind_linear.specs.declared.relation.Relation.{Relation}
 use Rattle.kind_linear.specs.declared.explained.Excess.{Excess}
 use Rattle.kind_linear.specs.declared.term.Term.{Term}

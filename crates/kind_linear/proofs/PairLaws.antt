@@ -5,7 +5,8 @@ use Rattle.std.proofs.lemmas.Int.{ints, unsigned_abs-mul}
 use Rattle.dom_core.specs.Ends.{Ends, scaled_ends}
 use Rattle.dom_core.specs.declared.arg.Arg.TheVariants.{Var}
 use Rattle.kind_linear.specs.Linear.{Form, FormFits}
-use Rattle.kind_linear.specs.Sum.{arg_ends, magnitude, size_of}
+use Rattle.kind_law.specs.Argument.{arg_ends}
+use Rattle.kind_linear.specs.Sum.{magnitude, size_of}
 use Rattle.kind_linear.specs.declared.term.Term.{Term}
 
 both_at_most : (a b n : ℕ) → a ≤ n → b ≤ n → max a b ≤ n

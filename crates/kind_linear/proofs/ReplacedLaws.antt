@@ -20,8 +20,10 @@ use Rattle.kind_linear.specs.InsertLaws.{magnitude-insert}
 use Rattle.kind_linear.specs.Linear.{Form, form_vars}
 use Rattle.kind_linear.specs.Reified.{Truth, truth_vars, truth_over, truth_refuted}
 use Rattle.kind_linear.specs.Slack.{replaced_ends, IsSlack}
-use Rattle.kind_linear.specs.Sum.{ArgHas, arg_ends, magnitude, size_of, total}
-use Rattle.kind_linear.specs.SumLaws.{each_new_arg, scaled_in, smaller_size}
+use Rattle.kind_law.specs.Argument.{ArgHas, arg_ends}
+use Rattle.kind_linear.specs.Sum.{magnitude, size_of, total}
+use Rattle.kind_law.proofs.ArgumentLaws.{each_new_arg}
+use Rattle.kind_linear.specs.SumLaws.{scaled_in, smaller_size}
 use Rattle.kind_linear.specs.TruthNext.{IsTruthSlack}
 use Rattle.kind_linear.specs.declared.term.Term.{Term}
 use Rattle.kind_linear.proofs.SlackLaws.{kept_total, own_has, rest_ordered}

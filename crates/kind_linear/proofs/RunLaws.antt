@@ -8,7 +8,8 @@ use Rattle.dom_core.specs.declared.arg.Arg.{Arg}
 use Rattle.dom_core.specs.declared.arg.Arg.TheVariants.{Var, Const}
 use Rattle.dom_core.specs.declared.var_id.VarId.{VarId}
 use Rattle.kind_law.specs.Laws.{Each}
-use Rattle.kind_linear.specs.Sum.{total, size_of, magnitude, with_arg, vars_of, with_new_arg, collected}
+use Rattle.kind_law.specs.Argument.{with_arg, with_new_arg, collected}
+use Rattle.kind_linear.specs.Sum.{total, size_of, magnitude, vars_of}
 use Rattle.kind_linear.specs.SumLaws.{arg_has}
 use Rattle.kind_linear.specs.declared.term.Term.{Term}
 

@@ -4,7 +4,7 @@ use Rattle.std.specs.Cmp.{unsigned_tied}
 use Rattle.std.specs.Ordering.{nat_cmp, is_eq}
 use Rattle.std.proofs.lemmas.List.Folds.{list_any-append}
 use Rattle.dom_core.specs.declared.var_id.VarId.{VarId}
-use Rattle.kind_linear.specs.Sum.{is_listed, with_new}
+use Rattle.kind_law.specs.Argument.{is_listed, with_new}
 use Rattle.kind_linear.specs.Seen.{TellsListed}
 
 pub none_seen : (has : ℕ → Bool) → ((n : ℕ) → has n ≡ false) → TellsListed [] has

@@ -19,10 +19,12 @@ use Rattle.kind_law.proofs.EachLaws.{each_map}
 use Rattle.kind_law.proofs.NextLaws.{next_found, not_some}
 use Rattle.kind_linear.specs.InsertLaws.{same_ends, total-insert, total_same, each-insert}
 use Rattle.kind_linear.specs.Linear.{Form, form_vars, FormFits}
-use Rattle.kind_linear.specs.SumLaws.{each_listed, total_size, total_within}
-use Rattle.kind_linear.specs.declared.term.Reading.TheVariants.{Values}
+use Rattle.kind_law.proofs.ArgumentLaws.{each_listed}
+use Rattle.kind_linear.specs.SumLaws.{total_size, total_within}
+use Rattle.kind_law.specs.declared.argument.Reading.TheVariants.{Values}
 use Rattle.kind_linear.specs.Slack.{replaced_ends, HasSingles, IsSlack, IsArgEnd}
-use Rattle.kind_linear.specs.Sum.{arg_ends, total, size_of, magnitude, with_arg, vars_of, is_listed, with_new, collected}
+use Rattle.kind_law.specs.Argument.{arg_ends, with_arg, is_listed, with_new, collected}
+use Rattle.kind_linear.specs.Sum.{total, size_of, magnitude, vars_of}
 use Rattle.kind_linear.specs.declared.term.Term.{Term}
 
 -- ---- a sum with one part replaced

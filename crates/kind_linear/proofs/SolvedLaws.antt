@@ -11,8 +11,9 @@ use Rattle.dom_core.proofs.TestLaws.{and_first, and_second, not_true, not_both}
 use Rattle.dom_core.proofs.RisesLaws.{or_true, int_eq_same}
 use Rattle.kind_law.specs.Laws.{Each}
 use Rattle.kind_linear.specs.Linear.{Form}
-use Rattle.kind_linear.specs.Sum.{var_of, vars_of, is_listed}
-use Rattle.kind_linear.specs.SumLaws.{each_distinct}
+use Rattle.kind_law.specs.Argument.{var_of, is_listed}
+use Rattle.kind_linear.specs.Sum.{vars_of}
+use Rattle.kind_law.proofs.ArgumentLaws.{each_distinct}
 use Rattle.kind_linear.specs.Output.{Equation, sign_of, form_of, is_equality, is_unit, is_alone, is_unit_beside, others_at, can_define, IsFunctional, IsSolved}
 use Rattle.kind_linear.specs.declared.relation.Relation.{Relation}
 use Rattle.kind_linear.specs.declared.relation.Relation.TheVariants.{AtMost, Equal, Differ}

@@ -14,7 +14,8 @@ use Rattle.kind_law.proofs.NextLaws.{next_found, not_some}
 use Rattle.kind_linear.specs.Linear.{form_vars}
 use Rattle.kind_linear.specs.Reified.{Truth, truth_vars, truth_refuted}
 use Rattle.kind_linear.specs.Slack.{IsArgEnd}
-use Rattle.kind_linear.specs.Sum.{ArgHas, is_listed, is_new, vars_of, with_arg, with_new_arg}
+use Rattle.kind_law.specs.Argument.{ArgHas, is_listed, is_new, with_arg, with_new_arg}
+use Rattle.kind_linear.specs.Sum.{vars_of}
 use Rattle.kind_linear.specs.TruthNext.{AreSingle, AreSpans, IsTruthSlack}
 use Rattle.kind_linear.specs.declared.term.Term.{Term}
 use Rattle.kind_linear.proofs.SlackLaws.{append_none, each_append, place_here, read_after, seen_apart, slack_here, taken_before, within_after}

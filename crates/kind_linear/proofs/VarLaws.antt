@@ -4,7 +4,8 @@ use Rattle.std.proofs.lemmas.List.{drop_more}
 use Rattle.dom_core.specs.declared.arg.Arg.{Arg}
 use Rattle.dom_core.specs.declared.arg.Arg.TheVariants.{Var, Const}
 use Rattle.dom_core.specs.declared.var_id.VarId.{VarId}
-use Rattle.kind_linear.specs.Sum.{is_variable, with_arg, vars_of, is_listed}
+use Rattle.kind_law.specs.Argument.{is_variable, with_arg, is_listed}
+use Rattle.kind_linear.specs.Sum.{vars_of}
 use Rattle.kind_linear.specs.Output.{is_read_by}
 use Rattle.kind_linear.specs.declared.term.Term.{Term}
 

@@ -12,7 +12,8 @@ use Rattle.kind_law.specs.declared.side.Side.TheVariants.{Low, High}
 use Rattle.kind_linear.specs.Linear.{Form}
 use Rattle.kind_linear.specs.Reified.{truth_over}
 use Rattle.kind_linear.specs.Relation.{certain_by, refuted_by}
-use Rattle.kind_linear.specs.Sum.{ArgHas, arg_ends, total, vars_of}
+use Rattle.kind_law.specs.Argument.{ArgHas, arg_ends}
+use Rattle.kind_linear.specs.Sum.{total, vars_of}
 use Rattle.kind_linear.specs.declared.explained.Excess.{Excess}
 use Rattle.kind_linear.specs.declared.argued.Verdict.{Verdict}
 use Rattle.kind_linear.specs.declared.relation.Relation.{Relation}

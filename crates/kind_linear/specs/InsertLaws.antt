@@ -10,7 +10,8 @@ use Rattle.dom_core.specs.declared.var_id.VarId.{VarId}
 use Rattle.dom_core.proofs.ProductLaws.{scaled_has, neg_one-times, pos_suc-times}
 use Rattle.kind_law.specs.Laws.{Each}
 use Rattle.kind_law.proofs.ChangeLaws.{lies_low, lies_high, lies}
-use Rattle.kind_linear.specs.Sum.{arg_ends, arg_value, ArgHas, total, sum_at, size_of, magnitude, with_arg, vars_of}
+use Rattle.kind_law.specs.Argument.{arg_ends, arg_value, ArgHas, with_arg}
+use Rattle.kind_linear.specs.Sum.{total, sum_at, size_of, magnitude, vars_of}
 use Rattle.kind_linear.specs.SumLaws.{arg_has}
 use Rattle.kind_linear.specs.declared.term.Term.{Term}
 

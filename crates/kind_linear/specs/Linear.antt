@@ -6,7 +6,8 @@ use Rattle.dom_core.specs.declared.var_id.VarId.{VarId}
 use Rattle.dom_core.specs.declared.view.Movement.{Movement}
 use Rattle.kind_law.specs.Laws.{hulls, changes, afters}
 use Rattle.kind_linear.specs.Relation.{is_related, refuted_by, kept_by}
-use Rattle.kind_linear.specs.Sum.{arg_ends, arg_change, total, sum_at, magnitude, vars_of, distinct}
+use Rattle.kind_law.specs.Argument.{arg_ends, arg_change, distinct}
+use Rattle.kind_linear.specs.Sum.{total, sum_at, magnitude, vars_of}
 use Rattle.kind_linear.specs.declared.relation.Relation.{Relation}
 use Rattle.kind_linear.specs.declared.term.Term.{Term}
 

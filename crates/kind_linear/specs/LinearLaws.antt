@@ -14,12 +14,14 @@ use Rattle.kind_law.specs.Laws.{Each, EndsIn, AreWithin, hulls, changes, afters,
 use Rattle.kind_law.proofs.BoundLaws.{smaller-within}
 use Rattle.kind_linear.specs.Linear.{Form, form_vars, FormFits, form_met, form_refuted, form_kept}
 use Rattle.kind_linear.specs.Relation.{is_related, is_only_value, refuted_by, kept_by}
-use Rattle.kind_linear.specs.Sum.{arg_ends, arg_change, arg_value, ArgHas, total, sum_at, magnitude, vars_of}
+use Rattle.kind_law.specs.Argument.{arg_ends, arg_change, arg_value, ArgHas}
+use Rattle.kind_linear.specs.Sum.{total, sum_at, magnitude, vars_of}
 use Rattle.kind_linear.specs.declared.relation.Relation.{Relation}
 use Rattle.kind_linear.specs.declared.relation.Relation.TheVariants.{AtMost, Equal, Differ}
-use Rattle.kind_linear.specs.declared.term.Reading.TheVariants.{Values}
+use Rattle.kind_law.specs.declared.argument.Reading.TheVariants.{Values}
 use Rattle.kind_linear.specs.declared.term.Term.{Term}
-use Rattle.kind_linear.specs.SumLaws.{each_listed, arg_has, times_difference, total_within, magnitude_within, total_point}
+use Rattle.kind_law.proofs.ArgumentLaws.{each_listed}
+use Rattle.kind_linear.specs.SumLaws.{arg_has, times_difference, total_within, magnitude_within, total_point}
 
 -- ---- relations
 

@@ -9,7 +9,8 @@ use Rattle.dom_core.specs.declared.view.Movement.{Movement}
 use Rattle.kind_law.specs.Laws.{Each, befores, afters, changes}
 use Rattle.kind_law.specs.DefineLaws.{all_still, changed_by}
 use Rattle.kind_linear.specs.Linear.{Form}
-use Rattle.kind_linear.specs.Sum.{arg_ends, arg_change, total, sum_at, size_of, magnitude, vars_of, is_listed, distinct}
+use Rattle.kind_law.specs.Argument.{arg_ends, arg_change, is_listed, distinct}
+use Rattle.kind_linear.specs.Sum.{total, sum_at, size_of, magnitude, vars_of}
 use Rattle.kind_linear.specs.declared.relation.Relation.{Relation}
 use Rattle.kind_linear.specs.declared.relation.Relation.TheVariants.{AtMost, Equal, Differ}
 use Rattle.kind_linear.specs.declared.term.Term.{Term}

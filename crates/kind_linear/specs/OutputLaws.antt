@@ -16,9 +16,11 @@ use Rattle.kind_linear.specs.Linear.{form_vars, FormFits, form_met, form_refuted
 use Rattle.kind_linear.specs.LinearLaws.{form-shrink, form-fixed, form-keep, sum_change}
 use Rattle.kind_linear.specs.InsertLaws.{same_ends, total-insert, sum_at-insert, magnitude-insert, each-insert, one_times, one_scaled, minus_scaled, sum_lies, sum_same, total_same}
 use Rattle.kind_linear.specs.Output.{Equation, sign_of, own_term, rest_of, inputs_of, form_of, IsFunctional, turned_value, turned_ends, solved_value, solved_ends, OutputFits, output_given, output_range, output_row, output_changed}
-use Rattle.kind_linear.specs.Sum.{arg_ends, arg_change, total, sum_at, size_of, magnitude, vars_of}
-use Rattle.kind_linear.specs.SumLaws.{each_listed, total_within, magnitude_within, total_point}
-use Rattle.kind_linear.specs.declared.term.Reading.TheVariants.{Values}
+use Rattle.kind_law.specs.Argument.{arg_ends, arg_change}
+use Rattle.kind_linear.specs.Sum.{total, sum_at, size_of, magnitude, vars_of}
+use Rattle.kind_law.proofs.ArgumentLaws.{each_listed}
+use Rattle.kind_linear.specs.SumLaws.{total_within, magnitude_within, total_point}
+use Rattle.kind_law.specs.declared.argument.Reading.TheVariants.{Values}
 
 -- ---- the output's own term
 

@@ -10,10 +10,12 @@ use Rattle.dom_core.specs.declared.var_id.VarId.{VarId}
 use Rattle.dom_core.specs.declared.view.Movement.{Movement}
 use Rattle.kind_law.specs.Laws.{Each, hulls, befores, afters, changes}
 use Rattle.kind_law.specs.DefineLaws.{all_still, changed_by}
+use Rattle.kind_law.specs.Argument.{arg_movement}
 use Rattle.kind_law.specs.Function.{have_none, function_kept}
 use Rattle.kind_linear.specs.Linear.{Form, form_vars, form_met}
 use Rattle.kind_linear.specs.Relation.{refuted_by, certain_by}
-use Rattle.kind_linear.specs.Sum.{arg_ends, arg_change, arg_value, total, with_new_arg}
+use Rattle.kind_law.specs.Argument.{arg_ends, arg_change, arg_value, with_new_arg}
+use Rattle.kind_linear.specs.Sum.{total}
 use Rattle.kind_linear.specs.declared.relation.Relation.{Relation}
 use Rattle.kind_linear.specs.declared.relation.Relation.TheVariants.{AtMost, Equal, Differ}
 
@@ -66,11 +68,6 @@ truth_changed k view =
 -- the movement of the truth under a view
 abbrev pub truth_movement : Truth → List Movement → Movement
 truth_movement k view = record { before = truth_range k (befores view); after = truth_range k (afters view); change = truth_changed k view }
-
--- the movement of an argument
-abbrev pub arg_movement : List Movement → Arg → Movement
-arg_movement view (Var x) = movement_at view x.0
-arg_movement view (Const c) = record { before = only c; after = only c; change = only (pos 0) }
 
 -- the output has the truth's value
 abbrev pub truth_met : Truth → List ℤ → Bool

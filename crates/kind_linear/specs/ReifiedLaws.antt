@@ -25,12 +25,15 @@ use Rattle.kind_linear.specs.Linear.{Form, form_vars, FormFits, form_met}
 use Rattle.kind_linear.specs.LinearLaws.{form-fits, refuted_smaller, refuted_only, only_one, sum_change}
 use Rattle.kind_linear.specs.InsertLaws.{same_ends, sum_lies, sum_same, total_same}
 use Rattle.kind_linear.specs.Relation.{is_related, refuted_by, certain_by}
-use Rattle.kind_linear.specs.Reified.{Truth, truth_vars, number_of, truth_ends, truth_given, truth_over, truth_range, truth_row, truth_changed, truth_movement, arg_movement, truth_met, truth_refuted, truth_kept, IsApart, IsGiver}
-use Rattle.kind_linear.specs.Sum.{arg_ends, arg_change, arg_value, ArgHas, var_of, total, sum_at, vars_of}
-use Rattle.kind_linear.specs.SumLaws.{each_listed, each_new_arg, total_within, total_point}
+use Rattle.kind_law.specs.Argument.{arg_movement}
+use Rattle.kind_linear.specs.Reified.{Truth, truth_vars, number_of, truth_ends, truth_given, truth_over, truth_range, truth_row, truth_changed, truth_movement, truth_met, truth_refuted, truth_kept, IsApart, IsGiver}
+use Rattle.kind_law.specs.Argument.{arg_ends, arg_change, arg_value, ArgHas, var_of}
+use Rattle.kind_linear.specs.Sum.{total, sum_at, vars_of}
+use Rattle.kind_law.proofs.ArgumentLaws.{each_listed, each_new_arg}
+use Rattle.kind_linear.specs.SumLaws.{total_within, total_point}
 use Rattle.kind_linear.specs.declared.relation.Relation.{Relation}
 use Rattle.kind_linear.specs.declared.relation.Relation.TheVariants.{AtMost, Equal, Differ}
-use Rattle.kind_linear.specs.declared.term.Reading.TheVariants.{Values}
+use Rattle.kind_law.specs.declared.argument.Reading.TheVariants.{Values}
 
 -- ---- truths of a sum within an interval
 

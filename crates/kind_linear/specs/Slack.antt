@@ -9,7 +9,8 @@ use Rattle.dom_core.specs.declared.var_id.VarId.{VarId}
 use Rattle.kind_law.specs.Laws.{Each, hulls}
 use Rattle.kind_law.specs.Next.{IsFirstEnd, size_of}
 use Rattle.kind_linear.specs.Linear.{Form, form_vars, FormFits}
-use Rattle.kind_linear.specs.Sum.{arg_ends, total, vars_of}
+use Rattle.kind_law.specs.Argument.{arg_ends}
+use Rattle.kind_linear.specs.Sum.{total, vars_of}
 use Rattle.kind_linear.specs.declared.reach.Pull.{Pull}
 use Rattle.kind_linear.specs.declared.term.Term.{Term}
 

@@ -11,67 +11,12 @@ use Rattle.dom_core.specs.declared.var_id.VarId.{VarId}
 use Rattle.dom_core.proofs.RisesLaws.{or_true}
 use Rattle.dom_core.proofs.ProductLaws.{pos_suc-times, neg_one-times, neg_suc-times, scaled_part, scaled_ordered}
 use Rattle.kind_law.specs.Laws.{Each, EndsIn}
-use Rattle.kind_linear.specs.Sum.{arg_span, arg_value, ArgHas, total, sum_at, size_of, magnitude, with_arg, vars_of, is_listed, with_new, with_new_arg, collected, distinct}
-use Rattle.kind_linear.specs.declared.term.Reading.{Reading}
-use Rattle.kind_linear.specs.declared.term.Reading.TheVariants.{Values, Changes}
+use Rattle.kind_law.proofs.ArgumentLaws.{split_arg}
+use Rattle.kind_law.specs.Argument.{arg_span, arg_value, ArgHas, with_arg, is_listed, with_new, with_new_arg, collected, distinct}
+use Rattle.kind_linear.specs.Sum.{total, sum_at, size_of, magnitude, vars_of}
+use Rattle.kind_law.specs.declared.argument.Reading.{Reading}
+use Rattle.kind_law.specs.declared.argument.Reading.TheVariants.{Values, Changes}
 use Rattle.kind_linear.specs.declared.term.Term.{Term}
-
--- ---- each variable once
-
-same_var : (u v : VarId) → v.0 ≡ u.0 → v ≡ u
-same_var u v e = ap (λ (n : ℕ). let w : VarId = record { 0 = n } in w) e
-
-listed : (P : VarId → Type 0) (u : VarId) (vs : List VarId) → is_listed u vs ≡ true → Each P vs → P u
-listed P u [] e h = absurd (cc)
-listed P u (v ∷ vs) e h =
-    elim (or_true (v.0 == u.0) (is_listed u vs) e)
-    [ inl same ↦ subst P (same_var u v ((Decides-eqb v.0 u.0).0 same)) h.0 | inr later ↦ listed P u vs later h.1 ]
-
-each-push : (P : VarId → Type 0) (vs : List VarId) (v : VarId) → Each P vs → P v → Each P (vs ++ v ∷ [])
-each-push P [] v h p = (p, tt)
-each-push P (w ∷ ws) v h p = (h.0, each-push P ws v h.1 p)
-
-each-front : (P : VarId → Type 0) (vs : List VarId) (v : VarId) → Each P (vs ++ v ∷ []) → Each P vs × P v
-each-front P [] v h = (tt, h.0)
-each-front P (w ∷ ws) v h = let t = each-front P ws v h.1 in ((h.0, t.0), t.1)
-
-each-new : (P : VarId → Type 0) (seen : List VarId) (v : VarId) → Each P seen → P v → Each P (with_new seen v)
-each-new P seen v h p =
-    elim (is_listed v seen) as (λ b. Each P (if b then seen else seen ++ v ∷ [])) [ true ↦ h | false ↦ each-push P seen v h p ]
-
-each-old : (P : VarId → Type 0) (seen : List VarId) (v : VarId) → Each P (with_new seen v) → Each P seen × P v
-each-old P seen v =
-    let step : (b : Bool) → is_listed v seen ≡ b → Each P (if b then seen else seen ++ v ∷ []) → Each P seen × P v =
-    λ b. elim b as (λ b. is_listed v seen ≡ b → Each P (if b then seen else seen ++ v ∷ []) → Each P seen × P v)
-    [ true ↦ λ e h. (h, listed P v seen e h) | false ↦ λ e h. each-front P seen v h ] in
-    step (is_listed v seen) refl
-
-each-collected : (P : VarId → Type 0) (seen vs : List VarId) → Each P seen → Each P vs → Each P (collected seen vs)
-each-collected P seen [] h g = h
-each-collected P seen (v ∷ vs) h g = each-collected P (with_new seen v) vs (each-new P seen v h g.0) g.1
-
-collected-each : (P : VarId → Type 0) (seen vs : List VarId) → Each P (collected seen vs) → Each P seen × Each P vs
-collected-each P seen [] h = (h, tt)
-collected-each P seen (v ∷ vs) h =
-    let t = collected-each P (with_new seen v) vs h in
-    let s = each-old P seen v t.0 in
-    (s.0, (s.1, t.1))
-
--- what holds of the distinct variables holds of all
-pub each_listed : (P : VarId → Type 0) (vs : List VarId) → Each P (distinct vs) → Each P vs
-each_listed P vs h = (collected-each P [] vs h).1
-
-pub each_distinct : (P : VarId → Type 0) (vs : List VarId) → Each P vs → Each P (distinct vs)
-each_distinct P vs h = each-collected P [] vs tt h
-
--- what holds of the variables with the argument's holds of them and of it
-pub each_new_arg : (P : VarId → Type 0) (vs : List VarId) (x : Arg) → Each P (with_new_arg vs x) → Each P vs × ArgHas P x
-each_new_arg P vs (Var u) h = each-old P vs u h
-each_new_arg P vs (Const c) h = (h, tt)
-
-split_arg : (P : VarId → Type 0) (x : Arg) (vs : List VarId) → Each P (with_arg x vs) → ArgHas P x × Each P vs
-split_arg P (Var x) vs h = h
-split_arg P (Const c) vs h = (tt, h)
 
 -- the fact holds of each argument that is a variable
 pub arg_has : (P : VarId → Type 0) (t : Term) (ts : List Term) → Each P (vars_of (t ∷ ts)) → ArgHas P t.arg × Each P (vars_of ts)

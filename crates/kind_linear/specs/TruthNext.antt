@@ -7,7 +7,8 @@ use Rattle.kind_law.specs.Laws.{hulls}
 use Rattle.kind_linear.specs.Linear.{form_vars, FormFits}
 use Rattle.kind_linear.specs.Reified.{Truth, truth_vars}
 use Rattle.kind_linear.specs.Slack.{HasSingles, IsSlack}
-use Rattle.kind_linear.specs.Sum.{ArgHas, arg_ends, is_new, total}
+use Rattle.kind_law.specs.Argument.{ArgHas, arg_ends, is_new}
+use Rattle.kind_linear.specs.Sum.{total}
 
 -- the sum has no variable twice, and the output is none of its variables
 pub record AreSingle (k : Truth) : Type 0 where

@@ -10,15 +10,15 @@ ghost use Rattle.kind_linear.specs.Linear.{FormFits, form_vars};
 ghost use Rattle.kind_linear.specs.Output.{HasBits, is_difference, is_equality};
 ghost use Rattle.kind_linear.specs.Reified.{Truth, truth_refuted, truth_vars};
 ghost use Rattle.kind_linear.specs.Relation.{certain_by};
-ghost use Rattle.kind_linear.specs.Sum.{ArgHas, arg_ends, total};
+ghost use Rattle.kind_law.specs.Argument.{ArgHas, arg_ends};
+ghost use Rattle.kind_linear.specs.Sum.{total};
 
 use crate::explained::{Excess, asked_total, beyond, excess_of, explain_sum};
 use crate::linear::Linear;
 use crate::relation::{Relation, is_certain, is_difference, is_equality, is_refuted};
-use crate::term::{Reading, span};
 use dom_cells::{Cells, Hulls, Kept, Region};
 use dom_core::{Arg, Clause, Interval, Literal};
-use kind_law::{Side, add_implied, explain_end, failing};
+use kind_law::{Reading, Side, add_implied, explain_end, failing, span};
 use std::alloc::AllocError;
 
 /// Why the truths and the output have nothing in common: the output's end on this side, and the sum's side.

@@ -9,14 +9,15 @@ ghost use Rattle.kind_linear.specs.Explained.{IsExcess, Pays, PaysAll, edge_side
 ghost use Rattle.kind_linear.specs.Linear.{FormFits, form_refuted, form_vars};
 ghost use Rattle.kind_linear.specs.Output.{HasBits, is_difference};
 ghost use Rattle.kind_linear.specs.Relation.{refuted_by};
-ghost use Rattle.kind_linear.specs.Sum.{ArgHas, arg_ends, total, vars_of};
+ghost use Rattle.kind_law.specs.Argument.{ArgHas, arg_ends};
+ghost use Rattle.kind_linear.specs.Sum.{total, vars_of};
 
 use crate::linear::Linear;
 use crate::relation::Relation;
-use crate::term::{Reading, Term};
+use crate::term::Term;
 use dom_cells::{Cells, Hulls, Kept, Region};
 use dom_core::{Arg, Clause, Interval, Literal, VarId};
-use kind_law::{Side, add_implied, explain_end, failing, reach};
+use kind_law::{Reading, Side, add_implied, explain_end, failing, reach};
 use std::alloc::AllocError;
 
 /// On which side a sum is refuted, and how much less would still be: from below as it is, or from above where it is

@@ -8,14 +8,14 @@ use crate::relation::{
     Relation, is_difference, is_equality, is_kept, is_met, is_refuted, truth_over,
 };
 use crate::slack::Slack;
-use crate::term::{Reading, Term, is_unit, pair_up};
+use crate::term::{Term, is_unit, pair_up};
 use crate::total::total_of;
 use crate::vars::{count_vars, distinct_vars, is_alone};
 use dom_cells::{Cells, Hulls, Point, Region};
 use dom_core::{
     After, Arg, Assignment, Changes, Clause, Interval, Intervals, Literal, VarId, View,
 };
-use kind_law::{Kind, Propagate, next_of, reason_of};
+use kind_law::{Kind, Propagate, Reading, next_of, reason_of};
 use std::alloc::{AllocError, Global};
 use std::marker::Model;
 
@@ -49,7 +49,8 @@ impl Linear {
     ghost use Rattle.kind_linear.specs.Output.{HasBits};
     ghost use Rattle.kind_linear.specs.Reified.{truth_over};
     ghost use Rattle.kind_linear.specs.Slack.{term_at, HasSingles, IsArgEnd};
-    ghost use Rattle.kind_linear.specs.Sum.{arg_span, arg_ends, total, magnitude};
+    ghost use Rattle.kind_law.specs.Argument.{arg_span, arg_ends};
+    ghost use Rattle.kind_linear.specs.Sum.{total, magnitude};
 
     /// The relation of the sum of the arguments, each times its coefficient, to the bound.
     pub fn new(

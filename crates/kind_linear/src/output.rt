@@ -4,14 +4,14 @@ ghost use Rattle.dom_core.specs.Ends.{only, difference_ends};
 ghost use Rattle.kind_linear.specs.Output.{can_define, IsSolved, turned_ends, HasBits};
 
 use crate::linear::Linear;
-use crate::term::{Reading, Term, var_of};
+use crate::term::Term;
 use crate::total::total_of;
 use crate::vars::{distinct_vars, terms_but};
 use dom_cells::{Cells, Point, Region};
 use dom_core::{
     After, Assignment, Before, Changes, Clause, Interval, Intervals, Literal, VarId, View,
 };
-use kind_law::{Define, Kind, Propagate, are_still, change_by};
+use kind_law::{Define, Kind, Propagate, Reading, are_still, change_by, var_of};
 use std::alloc::{AllocError, Global};
 use std::marker::Model;
 
@@ -60,7 +60,8 @@ impl LinearOutput {
 impl LinearOutput {
     ghost use Rattle.std.specs.Prelude.{◌≡◌, ◌<◌, ◌≤◌, ◌^◌};
     ghost use Rattle.kind_law.specs.Laws.{Each};
-    ghost use Rattle.kind_linear.specs.Sum.{arg_span, total, magnitude};
+    ghost use Rattle.kind_law.specs.Argument.{arg_span};
+    ghost use Rattle.kind_linear.specs.Sum.{total, magnitude};
     ghost use Rattle.kind_linear.specs.Output.{rest_of, inputs_of, InputsFit, output_range, HasBits};
 
     /// The sum of the other terms.

@@ -2,14 +2,15 @@
 ghost use Rattle.std.specs.Prelude.{◌≡◌, ◌<◌, IfOk, length, pos, true};
 ghost use Rattle.dom_core.specs.Ends.{only, difference_ends};
 ghost use Rattle.kind_linear.specs.Output.{HasBits};
-ghost use Rattle.kind_linear.specs.Reified.{number_of, bound_row, truth_row, arg_movement};
-ghost use Rattle.kind_linear.specs.Sum.{terms_of, ArgHas};
+ghost use Rattle.kind_law.specs.Argument.{arg_movement};
+ghost use Rattle.kind_linear.specs.Reified.{number_of, bound_row, truth_row};
+ghost use Rattle.kind_law.specs.Argument.{ArgHas};
+ghost use Rattle.kind_linear.specs.Sum.{terms_of};
 ghost use Rattle.kind_linear.specs.TruthNext.{AreSingle};
 
 use crate::argued::{Verdict, verdict_of, write_truth_reason};
 use crate::linear::Linear;
 use crate::relation::Relation;
-use crate::term::{Reading, span, var_of};
 use crate::truth_next::next_of_terms;
 use crate::vars::{is_new, with_output};
 use dom_cells::{Cells, Hulls, Point, Region};
@@ -18,8 +19,8 @@ use dom_core::{
     View,
 };
 use kind_law::{
-    Define, Kind, Propagate, are_apart, are_still, change_by, end_of_var, is_function_kept,
-    next_of, reason_of,
+    Define, Kind, Propagate, Reading, are_apart, are_still, change_by, end_of_var,
+    is_function_kept, movement_of, next_of, reason_of, span, var_of,
 };
 use std::alloc::{AllocError, Global};
 use std::marker::Model;
@@ -130,7 +131,8 @@ impl LinearReified {
     ghost use Rattle.kind_linear.specs.Linear.{FormFits};
     ghost use Rattle.kind_linear.specs.Reified.{truth_refuted, truth_vars};
     ghost use Rattle.kind_linear.specs.Slack.{IsArgEnd};
-    ghost use Rattle.kind_linear.specs.Sum.{arg_ends, total};
+    ghost use Rattle.kind_law.specs.Argument.{arg_ends};
+    ghost use Rattle.kind_linear.specs.Sum.{total};
     ghost use Rattle.kind_linear.specs.TruthNext.{AreSingle};
 
     /// The implied end of the output, where that is a variable.
@@ -250,7 +252,7 @@ impl Propagate for LinearReified {
 
 impl Define for LinearReified {
     ghost use Rattle.kind_linear.specs.Linear.{form_vars, FormFits};
-    ghost use Rattle.kind_linear.specs.Sum.{var_of};
+    ghost use Rattle.kind_law.specs.Argument.{var_of};
     ghost use Rattle.kind_linear.specs.Reified.{IsGiver, truth_given, truth_range, truth_changed};
     ghost use Rattle.kind_linear.specs.ReifiedLaws.{truth-apart, truth-value, truth-input, truth-range, truth-monotone, truth-change, truth-fixes};
 
@@ -342,31 +344,4 @@ fn bound_row(change: Interval) -> Interval
     let lo = if change.hi() <= 0 { 0 } else { -1 };
     let hi = if 0 <= change.lo() { 0 } else { 1 };
     Interval::new(lo, hi)
-}
-
-/// The movement of an argument.
-fn movement_of(arg: Arg, view: &View) -> Movement
-    requires { ArgHas (λ u. u.0 < length view.now) arg }
-    ensures { result ≡ arg_movement view.now arg }
-{
-    match arg {
-        Arg::Var(var) => Movement {
-            before: view.before(var),
-            after: view.after(var),
-            change: view.change(var),
-        },
-        Arg::Const(value) => constant_movement(value),
-    }
-}
-
-/// The movement of a constant.
-fn constant_movement(value: i64) -> Movement
-    ensures { result ≡ record { before = only value; after = only value; change = only (pos 0) } }
-{
-    let own = Interval::new(value as i128, value as i128);
-    Movement {
-        before: own,
-        after: own,
-        change: Interval::new(0, 0),
-    }
 }

@@ -1,10 +1,12 @@
 //! Sums of terms over intervals.
 ghost use Rattle.std.specs.Prelude.{◌≡◌, ◌<◌, ◌≤◌, ◌^◌};
 ghost use Rattle.kind_law.specs.Laws.{Each};
-ghost use Rattle.kind_linear.specs.Sum.{arg_span, total, magnitude, vars_of};
+ghost use Rattle.kind_law.specs.Argument.{arg_span};
+ghost use Rattle.kind_linear.specs.Sum.{total, magnitude, vars_of};
 
-use crate::term::{Reading, Term, span};
+use crate::term::Term;
 use dom_core::{Interval, Intervals};
+use kind_law::{Reading, span};
 
 /// The interval of the sum, where each argument lies in its interval.
 pub(crate) fn total_of<I: Intervals>(terms: &[Term], reading: Reading, intervals: &I) -> Interval

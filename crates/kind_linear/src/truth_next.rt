@@ -8,11 +8,10 @@ ghost use Rattle.kind_linear.specs.Reified.{truth_refuted, truth_vars};
 ghost use Rattle.kind_linear.specs.TruthNext.{AreSingle};
 
 use crate::linear::Linear;
-use crate::term::{Reading, span};
 use crate::truth_probe::TruthProbe;
 use dom_cells::{Cells, Hulls};
 use dom_core::{Arg, Interval, Literal};
-use kind_law::first_end;
+use kind_law::{Reading, first_end, span};
 
 /// A truth, with the intervals of its sum and of its output over a box.
 #[derive(Drop)]

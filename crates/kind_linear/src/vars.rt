@@ -3,7 +3,8 @@ ghost use Rattle.std.specs.Prelude.{◌≡◌, ◌<◌, IfOk, OnOk, length};
 ghost use Rattle.std.specs.Ordering.{nat_cmp};
 ghost use Rattle.std.specs.BTreeSet.{contains};
 ghost use Rattle.kind_linear.specs.Seen.{TellsListed};
-ghost use Rattle.kind_linear.specs.Sum.{is_variable, vars_of, distinct, is_listed, is_new, with_new_arg};
+ghost use Rattle.kind_law.specs.Argument.{is_variable, distinct, is_listed, is_new, with_new_arg};
+ghost use Rattle.kind_linear.specs.Sum.{vars_of};
 ghost use Rattle.kind_linear.specs.Output.{is_alone, is_read_by, others_at};
 
 use crate::term::Term;

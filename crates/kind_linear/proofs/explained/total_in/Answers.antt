@@ -1,6 +1,7 @@
 use Rattle.std.proofs.Common.{◌≡◌, ◌≤◌, ◌^◌, ap, arith}
 use Rattle.kind_law.specs.Laws.{hulls}
-use Rattle.kind_linear.specs.Sum.{arg_ends, magnitude, size_of, total}
+use Rattle.kind_law.specs.Argument.{arg_ends}
+use Rattle.kind_linear.specs.Sum.{magnitude, size_of, total}
 use Rattle.kind_linear.specs.SumLaws.{total_size}
 use Rattle.kind_linear.proofs.explained.total_in.Goals as goal
 

@@ -2,7 +2,7 @@ use Rattle.std.proofs.Common.{rules, ◌≡◌, ◌∙◌, ap, ◌<◌, ◌+◌,
 use Rattle.std.proofs.lemmas.Int.{ints}
 use Rattle.std.specs.Int.{w128}
 use Rattle.dom_core.specs.Ends.{sum_ends, scaled_ends}
-use Rattle.kind_linear.specs.Sum.{arg_span}
+use Rattle.kind_law.specs.Argument.{arg_span}
 use Rattle.kind_linear.specs.declared.term.Term.{Term}
 use Rattle.dom_core.specs.declared.arg.Arg.TheVariants.{Var}
 use Rattle.kind_linear.proofs.RunLaws.{Running, running-step, vars-step, sum_size, fits_lo, fits_hi}

@@ -1,6 +1,7 @@
 use Rattle.std.proofs.Common.{◌<◌, drop}
 use Rattle.kind_law.specs.Laws.{Each}
-use Rattle.kind_linear.specs.Sum.{arg_span, vars_of}
+use Rattle.kind_law.specs.Argument.{arg_span}
+use Rattle.kind_linear.specs.Sum.{vars_of}
 use Rattle.kind_linear.proofs.RunLaws.{Running}
 use Rattle.kind_linear.proofs.total.total_of.Given as goal
 

@@ -2,7 +2,8 @@ use Rattle.std.proofs.Common.{◌≡◌, ◌∙◌, sym, ap, ◌+◌, ◌||◌, 
 use Rattle.std.proofs.lemmas.List.{take_rest}
 use Rattle.dom_core.specs.declared.arg.Arg.{Arg}
 use Rattle.kind_linear.specs.Output.{is_alone, others_at}
-use Rattle.kind_linear.specs.Sum.{vars_of, is_listed}
+use Rattle.kind_law.specs.Argument.{is_listed}
+use Rattle.kind_linear.specs.Sum.{vars_of}
 use Rattle.kind_linear.specs.declared.term.Term.{Term}
 use Rattle.kind_linear.proofs.VarLaws.{listed-append}
 use Rattle.kind_linear.proofs.vars.is_alone.Goals as goal

@@ -1,7 +1,7 @@
 use Rattle.std.proofs.Common.{◌≡◌, ◌∙◌, ap, ◌<◌}
 use Rattle.kind_linear.specs.Linear.{Form}
 use Rattle.kind_linear.specs.Sum.{vars_of}
-use Rattle.kind_linear.specs.SumLaws.{each_listed}
+use Rattle.kind_law.proofs.ArgumentLaws.{each_listed}
 use Rattle.kind_linear.proofs.linear.Linear.total.Goals as goal
 
 pub total_of-requires-clause-below : goal.total_of-requires-clause-below

@@ -4,9 +4,11 @@ use Rattle.dom_core.specs.Ends.{Ends, difference_ends}
 use Rattle.kind_law.specs.Laws.{EndsIn, befores, afters, changes}
 use Rattle.kind_linear.specs.Linear.{Form, form_vars}
 use Rattle.kind_linear.specs.Relation.{kept_by}
-use Rattle.kind_linear.specs.Sum.{arg_span, total, magnitude, vars_of}
-use Rattle.kind_linear.specs.SumLaws.{each_listed, each_unit, magnitude_change}
-use Rattle.kind_linear.specs.declared.term.Reading.TheVariants.{Values, Changes}
+use Rattle.kind_law.specs.Argument.{arg_span}
+use Rattle.kind_linear.specs.Sum.{total, magnitude, vars_of}
+use Rattle.kind_law.proofs.ArgumentLaws.{each_listed}
+use Rattle.kind_linear.specs.SumLaws.{each_unit, magnitude_change}
+use Rattle.kind_law.specs.declared.argument.Reading.TheVariants.{Values, Changes}
 use Rattle.kind_linear.proofs.linear.LinearKind.keeps.Goals as goal
 
 pub total-change-requires-clause-ready : goal.total-change-requires-clause-ready

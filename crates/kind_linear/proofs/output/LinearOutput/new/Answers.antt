@@ -4,7 +4,8 @@ use Rattle.dom_core.specs.declared.arg.Arg.TheVariants.{Var}
 use Rattle.dom_core.specs.declared.var_id.VarId.{VarId}
 use Rattle.kind_linear.specs.Linear.{Form}
 use Rattle.kind_linear.specs.Output.{Equation, others_at, IsSolved}
-use Rattle.kind_linear.specs.Sum.{var_of, vars_of, distinct}
+use Rattle.kind_law.specs.Argument.{var_of, distinct}
+use Rattle.kind_linear.specs.Sum.{vars_of}
 use Rattle.kind_linear.specs.declared.term.Term.{Term}
 use Rattle.kind_linear.proofs.SolvedLaws.{equation_at, solved_is}
 use Rattle.kind_linear.proofs.output.LinearOutput.new.Goals as goal

@@ -1,7 +1,9 @@
 use Rattle.std.proofs.Common.{◌≡◌, ◌∙◌, ap, ◌<◌, ◌≤◌, List, arith}
 use Rattle.kind_linear.specs.Output.{rest_of}
-use Rattle.kind_linear.specs.Sum.{arg_span, total, magnitude, vars_of, size_of}
-use Rattle.kind_linear.specs.SumLaws.{each_listed, total_size}
+use Rattle.kind_law.specs.Argument.{arg_span}
+use Rattle.kind_linear.specs.Sum.{total, magnitude, vars_of, size_of}
+use Rattle.kind_law.proofs.ArgumentLaws.{each_listed}
+use Rattle.kind_linear.specs.SumLaws.{total_size}
 use Rattle.kind_linear.specs.declared.term.Term.{Term}
 use Rattle.kind_linear.proofs.output.LinearOutput.rest_total.Goals as goal
 

@@ -2,9 +2,11 @@ use Rattle.std.proofs.Common.{◌≤◌, ◌+◌, arith}
 use Rattle.dom_core.specs.Ends.{difference_ends}
 use Rattle.kind_law.specs.Laws.{EndsIn, befores, afters, changes}
 use Rattle.kind_linear.specs.Output.{rest_of, inputs_of}
-use Rattle.kind_linear.specs.Sum.{arg_span, magnitude, vars_of}
-use Rattle.kind_linear.specs.SumLaws.{each_listed, each_unit, magnitude_change}
-use Rattle.kind_linear.specs.declared.term.Reading.TheVariants.{Values, Changes}
+use Rattle.kind_law.specs.Argument.{arg_span}
+use Rattle.kind_linear.specs.Sum.{magnitude, vars_of}
+use Rattle.kind_law.proofs.ArgumentLaws.{each_listed}
+use Rattle.kind_linear.specs.SumLaws.{each_unit, magnitude_change}
+use Rattle.kind_law.specs.declared.argument.Reading.TheVariants.{Values, Changes}
 use Rattle.kind_linear.proofs.RunLaws.{difference_fits}
 use Rattle.kind_linear.proofs.output.LinearOutputDefine.change.Goals as goal
 

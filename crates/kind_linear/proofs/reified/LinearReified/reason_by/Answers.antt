@@ -5,8 +5,9 @@ use Rattle.kind_law.specs.Reason.{IsCause, asked}
 use Rattle.kind_linear.specs.Explained.{IsVerdict}
 use Rattle.kind_linear.specs.Linear.{form_vars}
 use Rattle.kind_linear.specs.Reified.{Truth, truth_refuted}
-use Rattle.kind_linear.specs.Sum.{ArgHas, arg_ends, total}
-use Rattle.kind_linear.specs.SumLaws.{each_new_arg}
+use Rattle.kind_law.specs.Argument.{ArgHas, arg_ends}
+use Rattle.kind_linear.specs.Sum.{total}
+use Rattle.kind_law.proofs.ArgumentLaws.{each_new_arg}
 use Rattle.kind_linear.proofs.reified.LinearReified.reason_by.Goals as goal
 
 pub write_truth_reason-written-requires-clause-output : goal.write_truth_reason-written-requires-clause-output

@@ -5,10 +5,12 @@ use Rattle.kind_law.specs.DefineLaws.{all_still, changed_by}
 use Rattle.kind_law.specs.Laws.{EndsIn, befores, afters, changes}
 use Rattle.kind_linear.specs.Linear.{Form, form_vars}
 use Rattle.kind_linear.specs.Reified.{Truth, truth_range, truth_row}
-use Rattle.kind_linear.specs.Sum.{arg_span, total, magnitude, vars_of}
-use Rattle.kind_linear.specs.SumLaws.{each_listed, each_unit, magnitude_change}
+use Rattle.kind_law.specs.Argument.{arg_span}
+use Rattle.kind_linear.specs.Sum.{total, magnitude, vars_of}
+use Rattle.kind_law.proofs.ArgumentLaws.{each_listed}
+use Rattle.kind_linear.specs.SumLaws.{each_unit, magnitude_change}
 use Rattle.kind_linear.specs.declared.relation.Relation.{Relation}
-use Rattle.kind_linear.specs.declared.term.Reading.TheVariants.{Values, Changes}
+use Rattle.kind_law.specs.declared.argument.Reading.TheVariants.{Values, Changes}
 use Rattle.kind_linear.proofs.reified.LinearReified.truth_change.Goals as goal
 
 sum_fits : (k : Form) (a b c : ℕ) → a ≤ b + c → b ≤ 2 ^ 101 → c ≤ 2 ^ 101 → a ≤ 2 ^ 102

@@ -3,8 +3,8 @@ use Rattle.dom_core.specs.View.{movement_at}
 use Rattle.kind_law.specs.Laws.{IsTrueChange}
 use Rattle.kind_linear.specs.Linear.{form_vars}
 use Rattle.kind_linear.specs.Reified.{Truth}
-use Rattle.kind_linear.specs.Sum.{ArgHas}
-use Rattle.kind_linear.specs.SumLaws.{each_new_arg}
+use Rattle.kind_law.specs.Argument.{ArgHas}
+use Rattle.kind_law.proofs.ArgumentLaws.{each_new_arg}
 use Rattle.kind_linear.proofs.reified.LinearReifiedKind.keeps.Goals as goal
 
 pub movement_of-output-requires : goal.movement_of-output-requires

@@ -2,8 +2,8 @@ use Rattle.std.proofs.Common.{ap, sym, subst, ◌<◌}
 use Rattle.dom_cells.specs.Cell.{IsSane}
 use Rattle.kind_linear.specs.Linear.{form_vars}
 use Rattle.kind_linear.specs.Reified.{Truth}
-use Rattle.kind_linear.specs.Sum.{ArgHas}
-use Rattle.kind_linear.specs.SumLaws.{each_new_arg}
+use Rattle.kind_law.specs.Argument.{ArgHas}
+use Rattle.kind_law.proofs.ArgumentLaws.{each_new_arg}
 use Rattle.kind_linear.proofs.reified.LinearReifiedKind.refutes_in.Goals as goal
 
 pub span-output-requires-clause-below : goal.span-output-requires-clause-below

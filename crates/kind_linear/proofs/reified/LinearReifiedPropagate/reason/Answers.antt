@@ -4,8 +4,9 @@ use Rattle.kind_law.specs.Reason.{asked}
 use Rattle.kind_linear.specs.Explained.{IsVerdict}
 use Rattle.kind_linear.specs.Linear.{form_vars}
 use Rattle.kind_linear.specs.Reified.{Truth}
-use Rattle.kind_linear.specs.Sum.{ArgHas, arg_ends, total}
-use Rattle.kind_linear.specs.SumLaws.{each_new_arg}
+use Rattle.kind_law.specs.Argument.{ArgHas, arg_ends}
+use Rattle.kind_linear.specs.Sum.{total}
+use Rattle.kind_law.proofs.ArgumentLaws.{each_new_arg}
 use Rattle.kind_linear.proofs.reified.LinearReifiedPropagate.reason.Goals as goal
 
 pub verdict_of-requires-clause-output : goal.verdict_of-requires-clause-output
