@@ -1,8 +1,7 @@
 -- Linear relations whose truth is the value of an argument.
 use Rattle.std.specs.Prelude.{◌≡◌, Bool, true, if◌then◌else◌, List, ℕ, ℤ, pos, negsuc, int_le}
 use Rattle.std.specs.Ordering.{int_eq}
-use Rattle.dom_core.specs.Ends.{Ends, only, difference_ends}
-use Rattle.dom_core.specs.View.{movement_at}
+use Rattle.dom_core.specs.Ends.{Ends, difference_ends}
 use Rattle.dom_core.specs.declared.arg.Arg.{Arg}
 use Rattle.dom_core.specs.declared.arg.Arg.TheVariants.{Var, Const}
 use Rattle.dom_cells.specs.declared.start.Start.{Start}

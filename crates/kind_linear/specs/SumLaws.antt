@@ -1,18 +1,16 @@
 -- Laws of sums of terms and of lists of their variables.
-use Rattle.std.proofs.Common.{◌≡◌, ℕ, zero, suc, ◌+◌, ◌≤◌, ◌==◌, Bool, true, false, List, [], ◌∷◌, ◌++◌, ℤ, pos, negsuc, ◌+ℤ◌, ◌-ℤ◌, ◌*ℤ◌, ◌≤ℤ◌, int_lt, if◌then◌else◌, refl, ◌∙◌, ap, subst, arith, inl, inr}
+use Rattle.std.proofs.Common.{◌≡◌, ℕ, zero, suc, ◌+◌, ◌≤◌, true, false, List, [], ◌∷◌, ℤ, pos, negsuc, ◌+ℤ◌, ◌-ℤ◌, ◌*ℤ◌, ◌≤ℤ◌, int_lt, if◌then◌else◌, refl, ◌∙◌, ap, arith}
 use Rattle.std.proofs.Math.IntN.{zero-*ℤ, *ℤ-zero}
 use Rattle.std.proofs.lemmas.Int.{ints}
-use Rattle.std.proofs.lemmas.Bool.Decides.{Decides-eqb}
 use Rattle.dom_core.specs.Assignment.{entry_at}
 use Rattle.dom_core.specs.Ends.{Ends, only, sum_ends, scaled_ends, difference_ends}
 use Rattle.dom_core.specs.declared.arg.Arg.{Arg}
 use Rattle.dom_core.specs.declared.arg.Arg.TheVariants.{Var, Const}
 use Rattle.dom_core.specs.declared.var_id.VarId.{VarId}
-use Rattle.dom_core.proofs.RisesLaws.{or_true}
 use Rattle.dom_core.proofs.ProductLaws.{pos_suc-times, neg_one-times, neg_suc-times, scaled_part, scaled_ordered}
 use Rattle.kind_law.specs.Laws.{Each, EndsIn}
 use Rattle.kind_law.proofs.ArgumentLaws.{split_arg}
-use Rattle.kind_law.specs.Argument.{arg_span, arg_value, ArgHas, with_arg, is_listed, with_new, with_new_arg, collected, distinct}
+use Rattle.kind_law.specs.Argument.{arg_span, arg_value, ArgHas}
 use Rattle.kind_linear.specs.Sum.{total, sum_at, size_of, magnitude, vars_of}
 use Rattle.kind_law.specs.declared.argument.Reading.{Reading}
 use Rattle.kind_law.specs.declared.argument.Reading.TheVariants.{Values, Changes}
