@@ -1,5 +1,5 @@
 -- Laws of cells, of boxes and of the literals that cut them.
-use Rattle.std.proofs.Common.{◌≡◌, ℕ, ◌==◌, Bool, true, false, not, ◌&&◌, cond, List, [], ◌∷◌, ◌++◌, ℤ, pos, ◌+ℤ◌, ◌-ℤ◌, ◌<ℤ◌, ◌≤ℤ◌, int_le, refl, sym, ◌∙◌, ap, subst, arith, ◌⊎◌, inl, inr, if◌then◌else◌}
+use Rattle.std.proofs.Common.{◌≡◌, ℕ, ◌==◌, Bool, true, false, ◌&&◌, cond, List, [], ◌∷◌, ◌++◌, ℤ, ◌≤ℤ◌, int_le, refl, sym, ◌∙◌, ap, subst, arith, ◌⊎◌, inl, inr, if◌then◌else◌}
 use Rattle.std.proofs.lemmas.Int.{ints, clamps}
 use Rattle.std.proofs.lemmas.Bool.Decides.{Decides-eqb}
 use Rattle.std.specs.Ordering.{int_eq}
@@ -8,14 +8,15 @@ use Rattle.std.specs.List.{filter}
 use Rattle.dom_core.specs.Rises.{is_among, Rises}
 use Rattle.dom_cells.specs.Cell.{has_of, lo_of, hi_of, IsSane, Suits, cut, cut_lo, cut_hi, IsCell}
 use Rattle.dom_cells.specs.Box.{cut_at, cut_all, AllSuit}
-use Rattle.dom_core.specs.Literal.{is_related, holds_at, is_end, negation, opposite, opposite_value}
+use Rattle.dom_core.specs.Literal.{is_related, holds_at, is_end, negation}
 use Rattle.dom_core.specs.declared.literal.Literal.{Literal}
 use Rattle.dom_core.specs.declared.literal.Rel.{Rel}
 use Rattle.dom_core.specs.declared.literal.Rel.TheVariants.{Le, Ge, Eq, Ne}
 use Rattle.dom_cells.specs.declared.start.Start.{Start}
 use Rattle.dom_cells.specs.declared.start.Start.TheVariants.{Values, Span}
+use Rattle.dom_core.proofs.LiteralLaws.{end_negation}
 use Rattle.dom_core.proofs.RisesLaws.{same_test, int_eq_from, or_left, among_cases, among_tail, first_least, last_greatest, first_among, last_among, some_among}
-use Rattle.dom_core.proofs.TestLaws.{le_true, true_le, false_le, and_first, and_second, and_both, true_or_false, not_both}
+use Rattle.dom_core.proofs.TestLaws.{le_true, true_le, and_first, and_second, and_both, true_or_false, not_both}
 
 -- ---- filters
 
@@ -160,6 +161,14 @@ suits-cut_at v c l r s =
 
 -- ---- cutting by many literals
 
+pub suits-cut_all : (v : ℕ) (c : Start) (ls : List Literal) (r : Rel) → Suits c r → Suits (cut_all v c ls) r
+suits-cut_all v c [] r s = s
+suits-cut_all v c (l ∷ ls) r s = suits-cut_all v (cut_at v c l) ls r (suits-cut_at v c l r s)
+
+pub cut_all-append : (v : ℕ) (c : Start) (ls ks : List Literal) → cut_all v c (ls ++ ks) ≡ cut_all v (cut_all v c ls) ks
+cut_all-append v c [] ks = refl
+cut_all-append v c (l ∷ ls) ks = cut_all-append v (cut_at v c l) ls ks
+
 pub cut_all-push : (v : ℕ) (c : Start) (ls : List Literal) (l : Literal) → cut_all v c (ls ++ l ∷ []) ≡ cut_at v (cut_all v c ls) l
 cut_all-push v c [] l = refl
 cut_all-push v c (k ∷ ks) l = cut_all-push v (cut_at v c k) ks l
@@ -214,34 +223,6 @@ sane-cut_all v c (l ∷ ls) x a s h =
 
 -- ---- negations
 
-below : (a b : ℤ) → int_le a b ≡ false → b <ℤ a
-below a b h = grind (arith, ints)
-
-double : (b : Bool) → b ≡ not (not b)
-double true = refl
-double false = refl
-
-negated : (r : Rel) (x v : ℤ) → is_related (opposite r) x (opposite_value r v) ≡ not (is_related r x v)
-negated Le x v = elim (true_or_false (int_le x v)) [
-  | inl h ↦ (let le : x ≤ℤ v = le_true x v h in false_le (v +ℤ pos 1) x (omega (arith, ints)) ∙ ap not (sym h))
-  | inr h ↦ (let lt : v <ℤ x = below x v h in true_le (v +ℤ pos 1) x (omega (arith, ints)) ∙ ap not (sym h))
-]
-negated Ge x v = elim (true_or_false (int_le v x)) [
-  | inl h ↦ (let le : v ≤ℤ x = le_true v x h in false_le x (v -ℤ pos 1) (omega (arith, ints)) ∙ ap not (sym h))
-  | inr h ↦ (let lt : x <ℤ v = below v x h in true_le x (v -ℤ pos 1) (omega (arith, ints)) ∙ ap not (sym h))
-]
-negated Eq x v = refl
-negated Ne x v = double (int_eq x v)
-
-pub negation-holds : (l : Literal) (x : ℤ) → holds_at (negation l) x ≡ not (holds_at l x)
-negation-holds l x = negated l.rel x l.value
-
-end_opposite : (r : Rel) → is_end r ≡ true → is_end (opposite r) ≡ true
-end_opposite Le e = refl
-end_opposite Ge e = refl
-end_opposite Eq e = e
-end_opposite Ne e = e
-
 pub suits-negation : (c : Start) (l : Literal) → Suits c l.rel → Suits c (negation l).rel
 suits-negation (Values xs) l s = tt
-suits-negation (Span lo hi) l s = end_opposite l.rel s
+suits-negation (Span lo hi) l s = end_negation l.rel s

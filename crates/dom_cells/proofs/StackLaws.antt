@@ -1,33 +1,29 @@
 -- The kept cells show the starts cut by the literals, and unmaking the last change goes back.
-use Rattle.std.proofs.Common.{◌≡◌, ℕ, zero, suc, ◌+◌, ◌-◌, ◌<◌, ◌≤◌, Bool, true, false, ◌&&◌, List, [], ◌∷◌, ◌++◌, length, map, take, drop, get_or, set, ℤ, ◌≤ℤ◌, refl, sym, ◌∙◌, ap, subst, arith, ◌⊎◌, inl, inr, Some, None, slice_get, length-set, length-take-le}
+use Rattle.std.proofs.Common.{◌≡◌, ℕ, zero, suc, ◌+◌, ◌-◌, ◌<◌, ◌≤◌, Bool, true, false, ◌&&◌, List, [], ◌∷◌, ◌++◌, length, map, take, drop, get_or, set, ℤ, ◌≤ℤ◌, refl, sym, ◌∙◌, ap, subst, arith, ◌⊎◌, inl, inr, Some, slice_get, length-set, length-take-le}
 use Rattle.std.proofs.lemmas.Int.{ints}
-use Rattle.std.proofs.lemmas.List.{take_all, drop_all, take-append-le, drop-append-le, map_push, length_push, take-take, take_more}
-use Rattle.std.proofs.lemmas.Option.{slice_get_within, slice_get_read}
+use Rattle.std.proofs.lemmas.List.{take_all, drop_all, take-append-le, drop-append-le, map_push, length_push, take_more}
+use Rattle.std.proofs.lemmas.Option.{slice_get_within, slice_get_read, same_Some}
 use Rattle.std.specs.Bool.{MatchBool}
-use Rattle.dom_cells.specs.Cell.{has_of, lo_of, hi_of, IsSane, Suits, cut, IsCell, IsHeld, IsFalse, IsPossible, CanFail}
+use Rattle.dom_cells.specs.Cell.{has_of, lo_of, hi_of, IsSane, Suits, cut, IsCell, IsHeld, IsFalse, IsPossible, CanFail, IsTruth}
 use Rattle.dom_core.specs.Literal.{holds_at}
-use Rattle.dom_cells.specs.Box.{Trailed, start_at, cell_of, cut_at, cut_all, AllSuit, IsBox, Undone}
-use Rattle.dom_cells.specs.Flagged.{holds_in, IsWhole, stepped, restored, Steps, IsStep, IsFloor, IsCeiling, AllHold, NoneHolds, SomeHolds, SomeFails}
-use Rattle.dom_cells.specs.Stack.{start_of, literal_of, altered, unmade, before, Shows, IsCutBy, AllCut, AllWithin, IsStack, trailed}
+use Rattle.dom_cells.specs.Box.{Box, CellsView, prefix_of, start_at, cell_of, cut_all, AllSuit, AllOver, IsBox, Undone}
+use Rattle.dom_cells.specs.Flagged.{holds_in, IsWhole, stepped, restored, Steps, IsStep, IsFloor, IsCeiling, AllHold, NoneHolds, SomeHolds, SomeFails, IsShown}
+use Rattle.dom_cells.specs.Stack.{start_of, literal_of, altered, unmade, before, Shows, IsCutBy, AllCut, AllWithin, IsStack, view_of}
 use Rattle.dom_core.specs.declared.literal.Literal.{Literal}
-use Rattle.dom_core.specs.declared.literal.Rel.{Rel}
 use Rattle.dom_cells.specs.declared.start.Start.{Start}
+use Rattle.dom_cells.specs.declared.truth.Truth.{Truth}
+use Rattle.dom_cells.specs.declared.truth.Truth.TheVariants.{True, False, Open}
 use Rattle.dom_cells.specs.declared.cell.Cell.{Cell}
 use Rattle.dom_cells.specs.declared.cell.Step.TheVariants.{Change as Moved}
 use Rattle.dom_cells.specs.declared.cells.Change.{Change}
 use Rattle.dom_cells.specs.declared.cells.Cells.TheInside.{Inside}
 use Rattle.dom_cells.proofs.CellLaws.{IsIn, is_in}
+use Rattle.dom_core.proofs.ListLaws.{get_push, get_set_other, set_reads}
 use Rattle.dom_core.proofs.TestLaws.{and_both}
-use Rattle.dom_cells.proofs.BoxLaws.{sane-cell, has-cut, sane-cut, cut_at-same, cut_at-other, cut_all-push, AllSuit-push, suits-cut_at, same_or_other}
+use Rattle.dom_cells.proofs.PrefixLaws.{prefix_whole, prefix_prefix}
+use Rattle.dom_cells.proofs.BoxLaws.{sane-cell, has-cut, sane-cut, cut_at-same, cut_at-other, cut_all-push, AllSuit-push, suits-cut_all, same_or_other}
 
 -- ---- one cell
-
-pub some_same : {A : Type 0} → (x y : A) → Some x ≡ Some y → x ≡ y
-some_same x y e = cc
-
-pub suits-cut_all : (v : ℕ) (c : Start) (ls : List Literal) (r : Rel) → Suits c r → Suits (cut_all v c ls) r
-suits-cut_all v c [] r s = s
-suits-cut_all v c (l ∷ ls) r s = suits-cut_all v (cut_at v c l) ls r (suits-cut_at v c l r s)
 
 pub zero_below : (k : ℕ) → k ≤ 0 → 0 ≡ k
 zero_below k h = omega arith
@@ -70,23 +66,6 @@ whole-cut v c s sane w =
 -- ---- lists with one entry changed
 
 module _ {A : Type 0} where
-  pub get-set_same : (xs : List A) (i : ℕ) (y z : A) → slice_get (set xs i y) i ≡ Some z → slice_get xs i ≡ None → ⊥
-  get-set_same [] i y z h g = cc
-  get-set_same (x ∷ xs) zero y z h g = cc
-  get-set_same (x ∷ xs) (suc i) y z h g = get-set_same xs i y z h g
-
-  pub set_reads : (xs : List A) (i : ℕ) (x y z : A) → slice_get xs i ≡ Some x → slice_get (set xs i y) i ≡ Some z → z ≡ y
-  set_reads [] i x y z g h = absurd (cc)
-  set_reads (w ∷ ws) zero x y z g h = cc
-  set_reads (w ∷ ws) (suc i) x y z g h = set_reads ws i x y z g h
-
-  pub get-set_other : (xs : List A) (i j : ℕ) (y : A) → (j ≡ i → ⊥) → slice_get (set xs i y) j ≡ slice_get xs j
-  get-set_other [] i j y other = refl
-  get-set_other (x ∷ xs) zero zero y other = absurd (other refl)
-  get-set_other (x ∷ xs) zero (suc j) y other = refl
-  get-set_other (x ∷ xs) (suc i) zero y other = refl
-  get-set_other (x ∷ xs) (suc i) (suc j) y other = get-set_other xs i j y (λ e. other (ap suc e))
-
   -- a change of what was written gives back what was there
   pub altered-set : (f : A → A) (xs : List A) (i : ℕ) (x y : A) → slice_get xs i ≡ Some x → f y ≡ x → altered f (set xs i y) i ≡ xs
   altered-set f [] i x y g e = refl
@@ -125,7 +104,7 @@ starts-unmade cells c = starts-altered (λ d. restored d c.lo c.hi c.hole) cells
 pub starts-set : (cells : List Cell) (v : ℕ) (cell new : Cell) → slice_get cells v ≡ Some cell → new.start ≡ cell.start
     → map start_of (set cells v new) ≡ map start_of cells
 starts-set [] v cell new g e = refl
-starts-set (c ∷ cs) zero cell new g e = ap (λ (s : Start). s ∷ map start_of cs) (e ∙ ap (λ (d : Cell). d.start) (some_same cell c (sym g)))
+starts-set (c ∷ cs) zero cell new g e = ap (λ (s : Start). s ∷ map start_of cs) (e ∙ ap (λ (d : Cell). d.start) (same_Some cell c (sym g)))
 starts-set (c ∷ cs) (suc v) cell new g e = ap (λ (ss : List Start). c.start ∷ ss) (starts-set cs v cell new g e)
 
 length-altered : {A : Type 0} (f : A → A) (xs : List A) (i : ℕ) → length (altered f xs i) ≡ length xs
@@ -175,7 +154,7 @@ all-cut-push cells ls l v cell new all g at suits start step u c h =
             suit = subst (λ (s : Start). AllSuit v s (ls ++ l ∷ [])) (sym start) (AllSuit-push v cell.start ls l old.suit (λ e. suits));
           } in
           subst (λ (n : ℕ). IsCutBy n (ls ++ l ∷ []) c) (sym same) (subst (IsCutBy v (ls ++ l ∷ [])) (sym is) made))
-      | inr other ↦ (let read : slice_get cells u ≡ Some c = sym (get-set_other cells v u new other) ∙ h in
+      | inr other ↦ (let read : slice_get cells u ≡ Some c = sym (get_set_other cells v u new other) ∙ h in
           let old : IsCutBy u ls c = all u c read in
           let apart : u ≡ l.var.0 → ⊥ = λ e. other (e ∙ sym at) in
           let cut_is : cut_all u c.start (ls ++ l ∷ []) ≡ cut_all u c.start ls =
@@ -226,7 +205,7 @@ stack-pop cells cs change s = record {
 
 pub start_at-cell : (cells : List Cell) (v : ℕ) (c : Cell) → slice_get cells v ≡ Some c → start_at (map start_of cells) v ≡ c.start
 start_at-cell [] v c g = absurd (cc)
-start_at-cell (d ∷ ds) zero c g = ap (λ (e : Cell). e.start) (some_same d c g)
+start_at-cell (d ∷ ds) zero c g = ap (λ (e : Cell). e.start) (same_Some d c g)
 start_at-cell (d ∷ ds) (suc v) c g = start_at-cell ds v c g
 
 pub length-starts : (cells : List Cell) → length (map start_of cells) ≡ length cells
@@ -238,9 +217,14 @@ some_cell [] v h = absurd (omega arith)
 some_cell (c ∷ cs) zero h = (c, refl)
 some_cell (c ∷ cs) (suc v) h = some_cell cs v (omega arith)
 
-pub box-of : (cells : List Cell) (cs : List Change) (spare : ℕ) → IsStack cells cs
-    → IsBox (record { starts = map start_of cells; literals = map literal_of cs; spare = spare })
-box-of cells cs spare s =
+over_within : (n : ℕ) (cs : List Change) → AllWithin n cs → AllOver n (map literal_of cs)
+over_within n [] a i l h = absurd (cc)
+over_within n (c ∷ cs) a zero l h = subst (λ (k : Literal). k.var.0 < n) (same_Some c.literal l h) a.0
+over_within n (c ∷ cs) a (suc i) l h = over_within n cs a.1 i l h
+
+pub box-of : (cells : List Cell) (cs : List Change) → IsStack cells cs
+    → IsBox (record { starts = map start_of cells; literals = map literal_of cs })
+box-of cells cs s =
     let now : AllCut (map literal_of cs) cells = stack-now cells cs s in
     let at : (v : ℕ) → v < length (map start_of cells) → (c : Cell) × (slice_get cells v ≡ Some c) =
     λ v lt. some_cell cells v (rw length-starts at lt) in
@@ -248,64 +232,71 @@ box-of cells cs spare s =
       starts = λ v lt. (let c = at v lt in rw (start_at-cell cells v c.0 c.1) (now v c.0 c.1).start);
       cells = λ v lt. (let c = at v lt in rw (start_at-cell cells v c.0 c.1) (now v c.0 c.1).shows.sane);
       suit = λ v lt. (let c = at v lt in rw (start_at-cell cells v c.0 c.1) (now v c.0 c.1).suit);
+      within = rw length-starts (over_within (length cells) cs s.within);
     }
 
 -- a kept cell, and what contracts see of it
-pub record IsOpen (m : Trailed) (v : ℕ) (c : Cell) : Type 0 where
+pub record IsOpen (m : Box) (v : ℕ) (c : Cell) : Type 0 where
   pub start : start_at m.starts v ≡ c.start
   pub shows : Shows c (cell_of m v)
   pub sound : IsBox m
 
-pub open_cell : (i : Inside) (m : Trailed) (v : ℕ) (c : Cell) → IsStack i.cells.items i.changes.items → trailed i ≡ m → slice_get i.cells.items v ≡ Some c → IsOpen m v c
+pub open_cell : (i : Inside) (m : CellsView) (v : ℕ) (c : Cell) → IsStack i.cells.items i.changes.items → view_of i ≡ m → slice_get i.cells.items v ≡ Some c
+    → IsOpen m.state v c
 open_cell i m v c s view g =
     let start : start_at (map start_of i.cells.items) v ≡ c.start = start_at-cell i.cells.items v c g in
     let cut : IsCutBy v (map literal_of i.changes.items) c = stack-now i.cells.items i.changes.items s v c g in
-    subst (λ (t : Trailed). IsOpen t v c) view (record {
+    subst (λ (t : CellsView). IsOpen t.state v c) view (record {
       start = start;
       shows = rw start cut.shows;
-      sound = box-of i.cells.items i.changes.items _ s;
+      sound = box-of i.cells.items i.changes.items s;
     })
 
-pub open_at : (i : Inside) (m : Trailed) (v : ℕ) (x : Cell) → IsStack i.cells.items i.changes.items → trailed i ≡ m → v < length m.starts
-    → x ≡ get_or i.cells.items v x → IsOpen m v x
+pub open_at : (i : Inside) (m : CellsView) (v : ℕ) (x : Cell) → IsStack i.cells.items i.changes.items → view_of i ≡ m → v < length m.state.starts
+    → x ≡ get_or i.cells.items v x → IsOpen m.state v x
 open_at i m v x s view lt read =
-    let n : length m.starts ≡ length i.cells.items = ap (λ (t : Trailed). length t.starts) (sym view) ∙ length-starts i.cells.items in
-    open_cell i m v x s view (slice_get_read i.cells.items (length m.starts) v x n lt read)
+    let n : length m.state.starts ≡ length i.cells.items = ap (λ (t : CellsView). length t.state.starts) (sym view) ∙ length-starts i.cells.items in
+    open_cell i m v x s view (slice_get_read i.cells.items (length m.state.starts) v x n lt read)
 
-pub view-box : (i : Inside) (m : Trailed) → IsStack i.cells.items i.changes.items → trailed i ≡ m → IsBox m
-view-box i m s view = subst IsBox view (box-of i.cells.items i.changes.items _ s)
+pub view-box : (i : Inside) (m : CellsView) → IsStack i.cells.items i.changes.items → view_of i ≡ m → IsBox m.state
+view-box i m s view = subst (λ (t : CellsView). IsBox t.state) view (box-of i.cells.items i.changes.items s)
 
 -- a step that leaves the box
-pub held-cell : (m : Trailed) (v : ℕ) (c : Cell) (l : Literal) → IsOpen m v c → AllHold c l → IsHeld (cell_of m v) l
+pub held-cell : (m : Box) (v : ℕ) (c : Cell) (l : Literal) → IsOpen m v c → AllHold c l → IsHeld (cell_of m v) l
 held-cell m v c l o h = record { all = λ x t. h x (sym (o.shows.has x) ∙ t) }
 
-pub false-cell : (m : Trailed) (v : ℕ) (c : Cell) (l : Literal) → IsOpen m v c → NoneHolds c l → IsFalse (cell_of m v) l
+pub false-cell : (m : Box) (v : ℕ) (c : Cell) (l : Literal) → IsOpen m v c → NoneHolds c l → IsFalse (cell_of m v) l
 false-cell m v c l o h = record { none = λ x t. h x (sym (o.shows.has x) ∙ t) }
 
-pub possible-cell : (m : Trailed) (v : ℕ) (c : Cell) (l : Literal) → IsOpen m v c → SomeHolds c l → IsPossible (cell_of m v) l
+pub possible-cell : (m : Box) (v : ℕ) (c : Cell) (l : Literal) → IsOpen m v c → SomeHolds c l → IsPossible (cell_of m v) l
 possible-cell m v c l o h = record { value = h.0; has = o.shows.has h.0 ∙ h.1; holds = h.2 }
 
-pub fails-cell : (m : Trailed) (v : ℕ) (c : Cell) (l : Literal) → IsOpen m v c → SomeFails c l → CanFail (cell_of m v) l
+pub fails-cell : (m : Box) (v : ℕ) (c : Cell) (l : Literal) → IsOpen m v c → SomeFails c l → CanFail (cell_of m v) l
 fails-cell m v c l o h = record { value = h.0; has = o.shows.has h.0 ∙ h.1; fails = h.2 }
 
-pub held-test : (m : Trailed) (v : ℕ) (c : Cell) (l : Literal) (b : Bool) → IsOpen m v c → MatchBool b (AllHold c l) (SomeFails c l)
+pub held-test : (m : Box) (v : ℕ) (c : Cell) (l : Literal) (b : Bool) → IsOpen m v c → MatchBool b (AllHold c l) (SomeFails c l)
     → MatchBool b (IsHeld (cell_of m v) l) (CanFail (cell_of m v) l)
 held-test m v c l true o h = held-cell m v c l o h
 held-test m v c l false o h = fails-cell m v c l o h
 
-pub false-test : (m : Trailed) (v : ℕ) (c : Cell) (l : Literal) (b : Bool) → IsOpen m v c → MatchBool b (NoneHolds c l) (SomeHolds c l)
+pub false-test : (m : Box) (v : ℕ) (c : Cell) (l : Literal) (b : Bool) → IsOpen m v c → MatchBool b (NoneHolds c l) (SomeHolds c l)
     → MatchBool b (IsFalse (cell_of m v) l) (IsPossible (cell_of m v) l)
 false-test m v c l true o h = false-cell m v c l o h
 false-test m v c l false o h = possible-cell m v c l o h
 
-pub floor-cell : (m : Trailed) (v : ℕ) (c : Cell) (value r : ℤ) → IsOpen m v c → IsFloor (holds_in c) value r → IsFloor (has_of (cell_of m v)) value r
+pub truth-cell : (m : Box) (v : ℕ) (c : Cell) (l : Literal) (t : Truth) → IsOpen m v c → IsShown c l t → IsTruth (cell_of m v) l t
+truth-cell m v c l True o h = held-cell m v c l o h
+truth-cell m v c l False o h = false-cell m v c l o h
+truth-cell m v c l Open o h = (possible-cell m v c l o h.0, fails-cell m v c l o h.1)
+
+pub floor-cell : (m : Box) (v : ℕ) (c : Cell) (value r : ℤ) → IsOpen m v c → IsFloor (holds_in c) value r → IsFloor (has_of (cell_of m v)) value r
 floor-cell m v c value r o f = record {
   has = o.shows.has r ∙ f.has;
   at_most = f.at_most;
   greatest = λ x h le. f.greatest x (sym (o.shows.has x) ∙ h) le;
 }
 
-pub ceiling-cell : (m : Trailed) (v : ℕ) (c : Cell) (value r : ℤ) → IsOpen m v c → IsCeiling (holds_in c) value r → IsCeiling (has_of (cell_of m v)) value r
+pub ceiling-cell : (m : Box) (v : ℕ) (c : Cell) (value r : ℤ) → IsOpen m v c → IsCeiling (holds_in c) value r → IsCeiling (has_of (cell_of m v)) value r
 ceiling-cell m v c value r o f = record {
   has = o.shows.has r ∙ f.has;
   at_least = f.at_least;
@@ -318,7 +309,7 @@ pub narrowed_stack : (cells : List Cell) (cs : List Change) (l : Literal) (a b :
     → slice_get cells l.var.0 ≡ Some a → slice_get cells l.var.0 ≡ Some b → Suits a.start l.rel → IsStep a l (Moved lo hi hole) → flags ≡ set b.flags hole false
     → IsStack (set cells l.var.0 (record { start = b.start; lo = lo; hi = hi; flags = flags })) (cs ++ record { literal = l; lo = b.lo; hi = b.hi; hole = hole } ∷ [])
 narrowed_stack cells cs l a b lo hi hole flags s ga gb suits step f =
-    let e : b ≡ a = some_same b a (sym gb ∙ ga) in
+    let e : b ≡ a = same_Some b a (sym gb ∙ ga) in
     rw (f, e) (stack-push cells cs (record { literal = l; lo = a.lo; hi = a.hi; hole = hole }) l.var.0 a (stepped a lo hi hole) s ga refl suits refl step.0
     (restored-stepped a lo hi hole step.1))
 
@@ -343,39 +334,39 @@ literals-front all cs change e =
 
 -- ---- going back step by step
 
-pub undone-none : (m : Trailed) → Undone m (length m.literals) m
-undone-none m = record { starts = refl; literals = sym (take_all (length m.literals) m.literals (omega arith)); spare = omega arith }
-
-pub undone-more : (a b c : Trailed) → Undone a (length b.literals) b → Undone b (length b.literals - 1) c → Undone a (length c.literals) c
-undone-more a b c first next =
-    let n : length c.literals ≡ length b.literals - 1 =
-    ap length next.literals ∙ length-take-le (length b.literals - 1) b.literals (omega arith) in
-    let ls : c.literals ≡ take (length b.literals - 1) a.literals =
-    next.literals ∙ ap (take (length b.literals - 1)) first.literals ∙ take-take (length b.literals - 1) (length b.literals) a.literals (omega arith) in
-    let p : b.spare + length b.literals ≡ a.spare + length a.literals = first.spare in
-    let q : c.spare + (length b.literals - 1) ≡ b.spare + length b.literals = next.spare in
-    record { starts = next.starts ∙ first.starts; literals = ls ∙ ap (λ (k : ℕ). take k a.literals) (sym n); spare = omega arith }
+pub undone-none : (m : CellsView) → Undone m (length m.state.literals) m
+undone-none m = record { state = sym (prefix_whole m.state); spare = omega arith }
 
 -- a step back leaves one literal fewer
-pub undone-fewer : (b c : Trailed) → Undone b (length b.literals - 1) c → 0 < length b.literals → length c.literals + 1 ≡ length b.literals
+pub undone-count : (b c : CellsView) → Undone b (length b.state.literals - 1) c → length c.state.literals ≡ length b.state.literals - 1
+undone-count b c next =
+    ap (λ (m : Box). length m.literals) next.state ∙ length-take-le (length b.state.literals - 1) b.state.literals (omega arith)
+
+pub undone-more : (a b c : CellsView) → Undone a (length b.state.literals) b → Undone b (length b.state.literals - 1) c → Undone a (length c.state.literals) c
+undone-more a b c first next =
+    let n : length c.state.literals ≡ length b.state.literals - 1 = undone-count b c next in
+    let p : b.spare + length b.state.literals ≡ a.spare + length a.state.literals = first.spare in
+    let q : c.spare + (length b.state.literals - 1) ≡ b.spare + length b.state.literals = next.spare in
+    record {
+      state = next.state ∙ ap (prefix_of (length b.state.literals - 1)) first.state
+          ∙ prefix_prefix a.state (length b.state.literals - 1) (length b.state.literals) (omega arith)
+          ∙ ap (λ (k : ℕ). prefix_of k a.state) (sym n);
+      spare = omega arith;
+    }
+
+pub undone-fewer : (b c : CellsView) → Undone b (length b.state.literals - 1) c → 0 < length b.state.literals
+    → length c.state.literals + 1 ≡ length b.state.literals
 undone-fewer b c next some =
-    let n : length c.literals ≡ length b.literals - 1 =
-    ap length next.literals ∙ length-take-le (length b.literals - 1) b.literals (omega arith) in
+    let n : length c.state.literals ≡ length b.state.literals - 1 = undone-count b c next in
     omega arith
 
 -- ---- building the cells one by one
 
-get-push : {A : Type 0} (xs : List A) (v : ℕ) (x y : A) → slice_get (xs ++ x ∷ []) v ≡ Some y → (slice_get xs v ≡ Some y) ⊎ (x ≡ y)
-get-push [] zero x y h = inr (some_same x y h)
-get-push [] (suc v) x y h = absurd (cc)
-get-push (w ∷ ws) zero x y h = inl h
-get-push (w ∷ ws) (suc v) x y h = get-push ws v x y h
-
 pub all-cut-more : (cells : List Cell) (c : Cell) (s : Start) → AllCut [] cells → IsSane s → IsWhole s c → AllCut [] (cells ++ c ∷ [])
 all-cut-more cells c s all sane whole v d h =
-    elim (get-push cells v c d h) [
+    elim (get_push cells c d v h) [
       | inl old ↦ all v d old
-      | inr new ↦ subst (IsCutBy v []) new (whole-cut v c s sane whole)
+      | inr new ↦ subst (IsCutBy v []) new.1 (whole-cut v c s sane whole)
     ]
 
 pub all-cut-none : AllCut [] []

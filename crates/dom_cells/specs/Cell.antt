@@ -1,5 +1,5 @@
 -- Cells: the values that a variable has left.
-use Rattle.std.specs.Prelude.{◌≡◌, ◌<◌, ◌&&◌, Bool, true, false, length, ℤ, ◌≤ℤ◌, ◌<ℤ◌, int_le, Option, Some, None}
+use Rattle.std.specs.Prelude.{◌≡◌, ◌<◌, ◌&&◌, Bool, true, false, not, [], ◌∷◌, length, ℤ, ◌≤ℤ◌, ◌<ℤ◌, int_le, Option, Some, None}
 use Rattle.std.specs.Int.{int_max, int_min}
 use Rattle.std.specs.List.{filter}
 use Rattle.dom_core.specs.Rises.{is_among, Rises, first_of, last_of}
@@ -10,6 +10,8 @@ use Rattle.dom_core.specs.declared.literal.Rel.{Rel}
 use Rattle.dom_core.specs.declared.literal.Rel.TheVariants.{Le, Ge, Eq, Ne}
 use Rattle.dom_cells.specs.declared.start.Start.{Start}
 use Rattle.dom_cells.specs.declared.start.Start.TheVariants.{Values, Span}
+use Rattle.dom_cells.specs.declared.truth.Truth.{Truth}
+use Rattle.dom_cells.specs.declared.truth.Truth.TheVariants.{True, False, Open}
 
 -- the least value
 abbrev pub lo_of : Start → ℤ
@@ -98,6 +100,22 @@ pub record CanFail (c : Start) (l : Literal) : Type 0 where
   pub value : ℤ
   pub has : has_of c value ≡ true
   pub fails : holds_at l value ≡ false
+
+-- how the literal stands to the values of the cell
+abbrev pub IsTruth : Start → Literal → Truth → Type 0
+IsTruth c l True = IsHeld c l
+IsTruth c l False = IsFalse c l
+IsTruth c l Open = IsPossible c l × CanFail c l
+
+-- the cell has no value
+abbrev pub is_empty : Start → Bool
+is_empty (Values []) = true
+is_empty (Values (x ∷ xs)) = false
+is_empty (Span lo hi) = not (int_le lo hi)
+
+-- cutting the cell by the literal leaves no value
+abbrev pub is_false : Start → Literal → Bool
+is_false c l = is_empty (cut c l)
 
 -- the one value of the cell, where it has no other
 abbrev pub IsFixed : Start → Option ℤ → Type 0

@@ -10,6 +10,8 @@ use Rattle.dom_cells.specs.declared.start.Start.TheVariants.{Values, Span}
 use Rattle.dom_cells.specs.declared.cell.Cell.{Cell}
 use Rattle.dom_cells.specs.declared.cell.Step.{Step}
 use Rattle.dom_cells.specs.declared.cell.Step.TheVariants.{Same, Emptied, Change}
+use Rattle.dom_cells.specs.declared.truth.Truth.{Truth}
+use Rattle.dom_cells.specs.declared.truth.Truth.TheVariants.{True, False, Open}
 
 -- the value stands in the list and its flag is up
 abbrev pub is_kept : ℤ → List ℤ → List Bool → Bool
@@ -101,6 +103,12 @@ SomeHolds c l = (x : ℤ) × (holds_in c x ≡ true) × (holds_at l x ≡ true)
 -- the literal fails at some value
 abbrev pub SomeFails : Cell → Literal → Type 0
 SomeFails c l = (x : ℤ) × (holds_in c x ≡ true) × (holds_at l x ≡ false)
+
+-- how the literal stands to the values of the kept cell
+abbrev pub IsShown : Cell → Literal → Truth → Type 0
+IsShown c l True = AllHold c l
+IsShown c l False = NoneHolds c l
+IsShown c l Open = SomeHolds c l × SomeFails c l
 
 -- the literal holds of some value and fails at some value, and the new cell has those of which it holds
 pub record Steps (c : Cell) (l : Literal) (new : Cell) : Type 0 where

@@ -1,7 +1,7 @@
 -- The cells that are kept, and the changes by which they were made and can be unmade.
 use Rattle.std.specs.Prelude.{◌≡◌, ◌≤◌, ◌<◌, ◌-◌, List, [], ◌∷◌, length, map, take, drop, ℕ, zero, suc, ℤ, slice_get, Some, vec_len, vec_capacity}
 use Rattle.dom_cells.specs.Cell.{has_of, IsSane, lo_of, hi_of}
-use Rattle.dom_cells.specs.Box.{cut_all, AllSuit, Trailed}
+use Rattle.dom_cells.specs.Box.{cut_all, AllSuit, CellsView}
 use Rattle.dom_cells.specs.Flagged.{holds_in, IsSound, restored}
 use Rattle.dom_core.specs.declared.literal.Literal.{Literal}
 use Rattle.dom_cells.specs.declared.start.Start.{Start}
@@ -59,5 +59,8 @@ pub record IsStack (cells : List Cell) (changes : List Change) : Type 0 where
   pub within : AllWithin (length cells) changes
 
 -- what contracts see of cells
-abbrev pub trailed : Inside → Trailed
-trailed c = record { starts = map start_of c.cells.items; literals = map literal_of c.changes.items; spare = vec_capacity c.changes - vec_len c.changes }
+abbrev pub view_of : Inside → CellsView
+view_of c = record {
+  state = record { starts = map start_of c.cells.items; literals = map literal_of c.changes.items };
+  spare = vec_capacity c.changes - vec_len c.changes;
+}

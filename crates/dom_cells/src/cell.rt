@@ -1,11 +1,11 @@
 //! One variable's cell, and what a literal makes of it.
 ghost use Rattle.std.specs.Prelude.{◌≡◌, ◌≤◌, ◌<◌, length, ◌≤ℤ◌, ◌<ℤ◌, true, IfOk, pos, ◌^◌, ◌-◌};
 ghost use Rattle.dom_cells.specs.Cell.{IsSane, IsInOrder, Suits};
-ghost use Rattle.dom_cells.specs.Flagged.{is_kept, holds_in, IsSound, IsWhole, IsFloor, IsCeiling, IsStep, IsPlace, AllHold, NoneHolds, SomeHolds, SomeFails};
+ghost use Rattle.dom_cells.specs.Flagged.{is_kept, holds_in, IsSound, IsWhole, IsFloor, IsCeiling, IsStep, IsPlace, IsShown, AllHold, NoneHolds, SomeHolds, SomeFails};
 ghost use Rattle.std.specs.Bool.{MatchBool};
 
-use crate::Start;
 use crate::flags::Flags;
+use crate::{Start, Truth};
 use dom_core::{Domain, Literal, Rel};
 use std::alloc::{AllocError, Global};
 
@@ -83,6 +83,20 @@ impl Cell {
             Rel::Eq => !self.has(literal.value),
             Rel::Ne => self.lo == literal.value && self.hi == literal.value,
         }
+    }
+
+    /// Whether the literal holds of all, of none or of some of the values.
+    pub(crate) fn truth(&self, literal: Literal) -> Truth
+        requires { IsSound self.now }
+        ensures { IsShown self.now literal result }
+    {
+        if self.is_held(literal) {
+            return Truth::True;
+        }
+        if self.is_failed(literal) {
+            return Truth::False;
+        }
+        Truth::Open
     }
 
     /// What the literal makes of the cell.

@@ -18,9 +18,9 @@ impl Region for Kept<'_> {
     ghost use Rattle.std.specs.Prelude.{length};
     ghost use Rattle.dom_cells.specs.Box.{cell_of, kept};
 
-    ghost width = { λ k. length k.cells.now.starts };
+    ghost width = { λ k. length k.cells.now.state.starts };
 
-    ghost cells = { λ k. kept (cell_of k.cells.now) k.literal };
+    ghost cells = { λ k. kept (cell_of k.cells.now.state) k.literal };
 
     fn lo(&self, var: VarId) -> i64 {
         let lo = self.cells.lo(var);

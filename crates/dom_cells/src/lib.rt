@@ -13,6 +13,7 @@ mod region;
 mod start;
 #[cfg(test)]
 mod tests;
+mod truth;
 
 pub use cells::Cells;
 pub use hulls::{Hulls, Point};
@@ -21,3 +22,4 @@ pub use mark::Mark;
 pub use narrowed::Narrowed;
 pub use region::Region;
 pub use start::Start;
+pub use truth::Truth;

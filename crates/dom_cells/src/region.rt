@@ -42,9 +42,9 @@ pub trait Region {
 }
 
 impl Region for Cells {
-    ghost width = { λ c. length c.starts };
+    ghost width = { λ c. length c.state.starts };
 
-    ghost cells = { cell_of };
+    ghost cells = { λ c. cell_of c.state };
 
     fn lo(&self, var: VarId) -> i64 {
         self.lo(var)

@@ -14,7 +14,7 @@ const Y: VarId = VarId(1);
 
 /// Two variables: one with the values from 0 to 9, one with all integers from -5 to 5.
 fn two_cells(rt: &HostRuntime) -> Result<Cells, Fail>
-    ensures { IfOk result (λ c. length c.starts ≡ 2) }
+    ensures { IfOk result (λ c. length c.state.starts ≡ 2) }
 {
     let domain = Domain::from_range(0, 9).ok().ok_or("no domain")?;
     let starts = [Start::Values(domain), Start::Span { lo: -5, hi: 5 }];
@@ -39,6 +39,41 @@ fn cells_are_narrowed_and_undone(rt: HostRuntime) -> Result<(), Fail> {
     cells.undo(mark);
     assert_eq!(rt; (cells.width(), cells.mark()), (2, mark));
     Ok(())
+}
+
+#[test]
+fn a_literal_is_true_false_or_open(rt: HostRuntime) -> Result<(), Fail> {
+    let cells = two_cells(&rt)?;
+    let cases = [
+        (Rel::Le, 9, Truth::True),
+        (Rel::Ge, 10, Truth::False),
+        (Rel::Eq, 4, Truth::Open),
+        (Rel::Ne, 4, Truth::Open),
+        (Rel::Ne, 10, Truth::True),
+    ];
+    for (rel, value, truth) in cases {
+        let literal = Literal { var: X, rel, value };
+        assert_eq!(rt; cells.truth(literal), truth);
+    }
+    Ok(())
+}
+
+#[test]
+#[tactic(auto, using(crate::proofs::KeptLaws::suits_end))]
+fn the_literals_of_the_changes_are_read(rt: HostRuntime) -> Result<(), Fail> {
+    let mut cells = two_cells(&rt)?;
+    cells.reserve(1)?;
+    let literal = Literal {
+        var: Y,
+        rel: Rel::Le,
+        value: 3,
+    };
+    cells.narrow(literal);
+    if cells.mark().changes == 1 {
+        assert_eq!(rt; cells.literal_at(0), literal);
+        return Ok(());
+    }
+    Err("no change".into())
 }
 
 #[test]
@@ -70,9 +105,9 @@ fn the_next_values_of_a_cell_pass_over_its_gaps(rt: HostRuntime) -> Result<(), F
 
 /// Takes the values from `low` up to `high` out of the cell.
 fn take_out(cells: &mut Cells, low: i64, high: i64) -> Result<(), Fail>
-    requires var { 0 < length cells.old.starts }
-    requires suits { Suits (start_at cells.old.starts 0) Rel.Ne }
-    ensures { OnOk result (cells.new.starts ≡ cells.old.starts) }
+    requires var { 0 < length cells.old.state.starts }
+    requires suits { Suits (start_at cells.old.state.starts 0) Rel.Ne }
+    ensures { OnOk result (cells.new.state.starts ≡ cells.old.state.starts) }
 {
     for value in low..high {
         cells.reserve(1)?;

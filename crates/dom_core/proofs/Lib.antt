@@ -1,4 +1,6 @@
 pub mod DomainLaws
+pub mod EndsLaws
+pub mod ListLaws
 pub mod LiteralLaws
 pub mod ProductLaws
 pub mod RankLaws

@@ -1,5 +1,5 @@
 -- Intervals of integers by their two ends.
-use Rattle.std.specs.Prelude.{◌≡◌, ◌&&◌, Bool, true, FitsSigned, ℤ, pos, ◌+ℤ◌, ◌-ℤ◌, ◌*ℤ◌, ◌≤ℤ◌, ◌<ℤ◌, int_le, int_lt, if◌then◌else◌, Option, Some, None}
+use Rattle.std.specs.Prelude.{◌≡◌, ◌≤◌, ◌^◌, ◌&&◌, Bool, true, FitsSigned, ℕ, ℤ, pos, ◌+ℤ◌, ◌-ℤ◌, ◌*ℤ◌, ◌≤ℤ◌, ◌<ℤ◌, int_le, int_lt, unsigned_abs, max, if◌then◌else◌, Option, Some, None}
 use Rattle.std.specs.Int.{int_max, int_min, w128}
 
 -- the two ends of an interval
@@ -10,6 +10,14 @@ pub record Ends : Type 0 where
 -- the ends stand in order, so the interval has an integer
 abbrev pub IsOrdered : Ends → Type 0
 IsOrdered e = e.lo ≤ℤ e.hi
+
+-- the greatest size of an integer of the interval
+abbrev pub size_of : Ends → ℕ
+size_of e = max (unsigned_abs e.lo) (unsigned_abs e.hi)
+
+-- the interval's ends have so many bits
+abbrev pub HasBits : ℕ → Ends → Type 0
+HasBits n e = (size_of e ≤ 2 ^ n)
 
 -- the integer lies in the interval
 abbrev pub lies_in : ℤ → Ends → Bool
@@ -31,6 +39,10 @@ difference_ends a b = record { lo = a.lo -ℤ b.hi; hi = a.hi -ℤ b.lo }
 abbrev pub scaled_ends : ℤ → Ends → Ends
 scaled_ends k a =
     record { lo = if int_lt k (pos 0) then k *ℤ a.hi else k *ℤ a.lo; hi = if int_lt k (pos 0) then k *ℤ a.lo else k *ℤ a.hi }
+
+-- the interval of a sum where one of its parts is replaced by another
+abbrev pub replaced_ends : Ends → Ends → Ends → Ends
+replaced_ends sum old new = record { lo = (sum.lo -ℤ old.lo) +ℤ new.lo; hi = (sum.hi -ℤ old.hi) +ℤ new.hi }
 
 -- the least interval over both
 abbrev pub hull_ends : Ends → Ends → Ends

@@ -10,6 +10,7 @@ mod intervals;
 mod literal;
 mod name;
 mod ranks;
+mod relation;
 mod set;
 mod sorts;
 #[cfg(test)]
@@ -27,6 +28,7 @@ pub use interval::Interval;
 pub use intervals::Intervals;
 pub use literal::{Literal, Rel};
 pub use name::Name;
+pub use relation::Relation;
 pub use set::Set;
 /// The error of a call that can fail for want of memory alone.
 pub use std::alloc::AllocError as NoMemory;

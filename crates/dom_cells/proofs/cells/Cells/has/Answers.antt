@@ -6,11 +6,11 @@ use Rattle.dom_cells.proofs.cells.Cells.has.Goals as goal
 
 pub has-requires : goal.has-requires
 has-requires c =
-    let shown : IsOpen c.args.self.now c.args.var.0 c.index-cell.result.now = open_at c.self.inside c.args.self.now c.args.var.0 c.index-cell.result.now c.self.invariant c.self.view_is c.requires c.index-cell.ensures in
+    let shown : IsOpen c.args.self.now.state c.args.var.0 c.index-cell.result.now = open_at c.self.inside c.args.self.now c.args.var.0 c.index-cell.result.now c.self.invariant c.self.view_is c.requires c.index-cell.ensures in
     shown.shows.sound
 
 pub returns : goal.returns
 returns c =
-    let shown : IsOpen c.args.self.now c.args.var.0 c.index-cell.result.now = open_at c.self.inside c.args.self.now c.args.var.0 c.index-cell.result.now c.self.invariant c.self.view_is c.requires c.index-cell.ensures in
+    let shown : IsOpen c.args.self.now.state c.args.var.0 c.index-cell.result.now = open_at c.self.inside c.args.self.now c.args.var.0 c.index-cell.result.now c.self.invariant c.self.view_is c.requires c.index-cell.ensures in
     let test : c.has.result ≡ holds_in c.index-cell.result.now c.args.value = rw (to_z-of_z w64 c.args.value c.ranges.value) at c.has.ensures in
     test ∙ sym (shown.shows.has c.args.value)

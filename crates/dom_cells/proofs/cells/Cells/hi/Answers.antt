@@ -6,7 +6,7 @@ use Rattle.dom_cells.proofs.cells.Cells.hi.Goals as goal
 pub returns-clause-hi : goal.returns-clause-hi
 returns-clause-hi c =
     let fits : FitsSigned w64 c.index-cell.result.now.hi = search rules in
-    let shown : IsOpen c.args.self.now c.args.var.0 c.index-cell.result.now = open_at c.self.inside c.args.self.now c.args.var.0 c.index-cell.result.now c.self.invariant c.self.view_is c.requires c.index-cell.ensures in
+    let shown : IsOpen c.args.self.now.state c.args.var.0 c.index-cell.result.now = open_at c.self.inside c.args.self.now c.args.var.0 c.index-cell.result.now c.self.invariant c.self.view_is c.requires c.index-cell.ensures in
     to_z-of_z w64 c.index-cell.result.now.hi fits ∙ sym shown.shows.hi
 
 pub returns-clause-sound : goal.returns-clause-sound

@@ -6,7 +6,7 @@ use Rattle.dom_cells.proofs.cells.Cells.lo.Goals as goal
 pub returns-clause-lo : goal.returns-clause-lo
 returns-clause-lo c =
     let fits : FitsSigned w64 c.index-cell.result.now.lo = search rules in
-    let shown : IsOpen c.args.self.now c.args.var.0 c.index-cell.result.now = open_at c.self.inside c.args.self.now c.args.var.0 c.index-cell.result.now c.self.invariant c.self.view_is c.requires c.index-cell.ensures in
+    let shown : IsOpen c.args.self.now.state c.args.var.0 c.index-cell.result.now = open_at c.self.inside c.args.self.now c.args.var.0 c.index-cell.result.now c.self.invariant c.self.view_is c.requires c.index-cell.ensures in
     to_z-of_z w64 c.index-cell.result.now.lo fits ∙ sym shown.shows.lo
 
 pub returns-clause-sound : goal.returns-clause-sound

@@ -4,9 +4,9 @@ use Rattle.dom_cells.proofs.cells.Cells.undo.Given as goal
 
 abbrev pub invariant-loop-mark : goal.invariant-loop-mark
 invariant-loop-mark l = record {
-  done : Undone l.fn.self (length l.self.literals) l.self;
-  within : l.fn.mark.changes ≤ length l.self.literals;
+  done : Undone l.fn.self (length l.self.state.literals) l.self;
+  within : l.fn.mark.changes ≤ length l.self.state.literals;
 }
 
 abbrev pub decreases-loop-mark : goal.decreases-loop-mark
-decreases-loop-mark l = length l.self.literals
+decreases-loop-mark l = length l.self.state.literals

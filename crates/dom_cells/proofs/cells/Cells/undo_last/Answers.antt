@@ -2,9 +2,10 @@ use Rattle.std.proofs.Common.{rules, ◌≡◌, ◌∙◌, refl, ap, ◌-◌, le
 use Rattle.std.proofs.lemmas.Int.{to_z-of_z}
 use Rattle.std.proofs.lemmas.List.{length-map}
 use Rattle.std.proofs.lemmas.Option.{slice_get_read}
-use Rattle.dom_cells.specs.Box.{Trailed}
+use Rattle.dom_cells.specs.Box.{CellsView}
 use Rattle.std.proofs.Common.{map, take}
 use Rattle.dom_cells.specs.Stack.{literal_of}
+use Rattle.dom_cells.proofs.PrefixLaws.{same_box}
 use Rattle.dom_cells.proofs.StackLaws.{popped-within, popped_stack, literals-front, starts-set}
 use Rattle.dom_cells.proofs.cells.Cells.undo_last.Goals as goal
 
@@ -28,11 +29,11 @@ invariant_of-self c =
 
 pub returns-in-Some : goal.returns-in-Some
 returns-in-Some c = record {
-  starts = starts-set c.self.inside.cells.items c.in-Some.change.literal.var.0 c.index_mut-cell.result.now _ (read c) refl ∙ ap (λ (t : Trailed). t.starts) c.self.view_is;
-  literals = literals-front c.self.inside.changes.items c.pop.new.self.items c.in-Some.change c.in-Some.ensures.items
-      ∙ ap (λ (t : Trailed). take (length t.literals - 1) t.literals) c.self.view_is;
-  spare = (let e : vec_capacity c.self.inside.changes - vec_len c.self.inside.changes ≡ c.args.self.now.spare = ap (λ (t : Trailed). t.spare) c.self.view_is in
-      let n : length (map literal_of c.self.inside.changes.items) ≡ length c.args.self.now.literals = ap (λ (t : Trailed). length t.literals) c.self.view_is in
+  state = same_box (starts-set c.self.inside.cells.items c.in-Some.change.literal.var.0 c.index_mut-cell.result.now _ (read c) refl ∙ ap (λ (t : CellsView). t.state.starts) c.self.view_is)
+      (literals-front c.self.inside.changes.items c.pop.new.self.items c.in-Some.change c.in-Some.ensures.items
+      ∙ ap (λ (t : CellsView). take (length t.state.literals - 1) t.state.literals) c.self.view_is);
+  spare = (let e : vec_capacity c.self.inside.changes - vec_len c.self.inside.changes ≡ c.args.self.now.spare = ap (λ (t : CellsView). t.spare) c.self.view_is in
+      let n : length (map literal_of c.self.inside.changes.items) ≡ length c.args.self.now.state.literals = ap (λ (t : CellsView). length t.state.literals) c.self.view_is in
       let m : length (map literal_of c.self.inside.changes.items) ≡ length c.self.inside.changes.items = length-map c.self.inside.changes.items literal_of in
       omega (arith, c.in-Some.ensures.len, c.in-Some.ensures.capacity, c.self.inside.changes.ok));
 }
