@@ -1,7 +1,7 @@
 -- Boxes with one bound more.
 use Rattle.std.proofs.Common.{◌≡◌, ℕ, ◌<◌, ◌≤◌, Bool, true, List, length, ℤ, pos, ◌+ℤ◌, ◌-ℤ◌, ◌≤ℤ◌, int_le, inl, inr, refl, sym, ◌∙◌, ap, subst, arith}
 use Rattle.std.proofs.lemmas.Int.{ints}
-use Rattle.dom_cells.specs.Box.{Trailed, IsBox, cell_of, kept}
+use Rattle.dom_cells.specs.Box.{Box, IsBox, cell_of, kept}
 use Rattle.dom_cells.specs.Cell.{IsCell, IsPart, IsSane, has_of, lo_of, hi_of}
 use Rattle.dom_core.specs.Ends.{Ends}
 use Rattle.dom_core.specs.Literal.{holds_at, is_end}
@@ -21,7 +21,7 @@ use Rattle.kind_law.specs.declared.side.Side.{Side}
 use Rattle.kind_law.specs.declared.side.Side.TheVariants.{Low, High}
 use Rattle.kind_law.proofs.EachLaws.{each_map, each_both}
 
-pub box-sane : (m : Trailed) (vars : List VarId) → IsBox m → AllBelow (length m.starts) vars → AllSane (cell_of m) vars
+pub box-sane : (m : Box) (vars : List VarId) → IsBox m → AllBelow (length m.starts) vars → AllSane (cell_of m) vars
 box-sane m vars s h = each_map (λ u. u.0 < length m.starts) (λ u. IsSane (cell_of m u.0)) vars (λ u lt. s.cells u.0 lt) h
 
 -- a cell with fewer values lies in the other

@@ -8,9 +8,9 @@ use Rattle.dom_core.specs.declared.literal.Literal.{Literal}
 use Rattle.dom_core.specs.declared.literal.Rel.{Rel}
 use Rattle.dom_core.specs.declared.literal.Rel.TheVariants.{Le, Ge}
 use Rattle.dom_core.specs.declared.var_id.VarId.{VarId}
-use Rattle.dom_core.proofs.LiteralLaws.{le_holds, holds_le, ge_holds, holds_ge}
+use Rattle.dom_core.proofs.LiteralLaws.{le_holds, holds_le, ge_holds, holds_ge, negation_holds, end_negation}
 use Rattle.dom_core.proofs.TestLaws.{not_both}
-use Rattle.dom_cells.specs.Box.{Trailed, start_at, cell_of, IsBox}
+use Rattle.dom_cells.specs.Box.{Box, start_at, cell_of, IsBox}
 use Rattle.dom_cells.specs.Cell.{has_of, lo_of, hi_of, IsSane, IsCell}
 use Rattle.dom_cells.specs.Flagged.{IsCeiling, IsFloor}
 use Rattle.dom_cells.specs.declared.start.Start.{Start}
@@ -18,7 +18,7 @@ use Rattle.dom_cells.specs.declared.start.Start.TheVariants.{Values}
 use Rattle.dom_cells.proofs.BoxLaws.{sane-cell, cut_at-other}
 use Rattle.dom_cells.specs.Box.{against}
 use Rattle.dom_core.proofs.TestLaws.{and_first, and_second, and_both, not_true}
-use Rattle.dom_cells.proofs.BoxLaws.{negation-holds, sane-cut_all}
+use Rattle.dom_cells.proofs.BoxLaws.{sane-cut_all}
 use Rattle.dom_cells.proofs.KeptLaws.{suits_end}
 use Rattle.std.proofs.Common.{map, ◌++◌}
 use Rattle.kind_law.specs.Reason.{IsCause, IsRead, IsReason, AllFine, survives, IsOpenEnd, IsOpen, asked, IsLeft, IsReach, AddsFine, CoversEnd, CoversLow, CoversHigh, CoversValue, CoversInside, CoversBetween, CoversRanks, IsLowBound, IsHighBound}
@@ -28,34 +28,34 @@ use Rattle.kind_law.specs.Laws.{AllBelow, AllSane, FitsLaw, hulls}
 use Rattle.kind_law.specs.Next.{IsBound}
 use Rattle.kind_law.proofs.EachLaws.{each_map}
 use Rattle.kind_law.proofs.BoundLaws.{box-sane, kept-fits, kept_sane, in_kept, kept_has, holds_there}
-use Rattle.kind_law.proofs.ReasonLaws.{AllSuited, fine-suited, suited-append, negations-suit, against_has, fine_survives, survives-append, survives-push, survives-last, survives-fewer, among_place, end_negation, from_start, value-more}
+use Rattle.kind_law.proofs.ReasonLaws.{AllSuited, fine-suited, suited-append, negations-suit, against_has, fine_survives, survives-append, survives-push, survives-last, survives-fewer, among_place, from_start, value-more}
 use Rattle.std.proofs.Common.{below_more}
 use Rattle.std.proofs.lemmas.Option.{get_or_from_slice_get}
 
 -- ---- the bounds that the failing of an implied end puts on a cell
 
 -- beside its own variable the box stays
-pub other_cell : (m : Trailed) (l : Literal) (v : ℕ) → (v ≡ l.var.0 → ⊥) → asked m (Some l) v ≡ cell_of m v
+pub other_cell : (m : Box) (l : Literal) (v : ℕ) → (v ≡ l.var.0 → ⊥) → asked m (Some l) v ≡ cell_of m v
 other_cell m l v apart = cut_at-other v (cell_of m v) (negation l) apart
 
-pub low_other : (m : Trailed) (l : Literal) (v : ℕ) → (v ≡ l.var.0 → ⊥) → lo_of (asked m (Some l) v) ≤ℤ lo_of (cell_of m v)
+pub low_other : (m : Box) (l : Literal) (v : ℕ) → (v ≡ l.var.0 → ⊥) → lo_of (asked m (Some l) v) ≤ℤ lo_of (cell_of m v)
 low_other m l v apart = let e : lo_of (asked m (Some l) v) ≡ lo_of (cell_of m v) = ap lo_of (other_cell m l v apart) in omega (arith, ints)
 
-pub high_other : (m : Trailed) (l : Literal) (v : ℕ) → (v ≡ l.var.0 → ⊥) → hi_of (cell_of m v) ≤ℤ hi_of (asked m (Some l) v)
+pub high_other : (m : Box) (l : Literal) (v : ℕ) → (v ≡ l.var.0 → ⊥) → hi_of (cell_of m v) ≤ℤ hi_of (asked m (Some l) v)
 high_other m l v apart = let e : hi_of (asked m (Some l) v) ≡ hi_of (cell_of m v) = ap hi_of (other_cell m l v apart) in omega (arith, ints)
 
-asked_sane : (m : Trailed) (l : Literal) (v : ℕ) → IsSane (cell_of m v) → IsOpenEnd (cell_of m) l → IsSane (asked m (Some l) v)
+asked_sane : (m : Box) (l : Literal) (v : ℕ) → IsSane (cell_of m v) → IsOpenEnd (cell_of m) l → IsSane (asked m (Some l) v)
 asked_sane m l v s o = kept_sane (cell_of m) (negation l) v o.open_still.value (end_negation l.rel o.end_is) o.open_still.has o.open_still.holds s
 
 -- a value of the cell at which the literal fails stays
-stays : (m : Trailed) (l : Literal) (v : ℕ) (x : ℤ) → IsOpenEnd (cell_of m) l → has_of (cell_of m v) x ≡ true → holds_at (negation l) x ≡ true
+stays : (m : Box) (l : Literal) (v : ℕ) (x : ℤ) → IsOpenEnd (cell_of m) l → has_of (cell_of m v) x ≡ true → holds_at (negation l) x ≡ true
     → has_of (asked m (Some l) v) x ≡ true
 stays m l v x o h g = in_kept (cell_of m) (negation l) v x (end_negation l.rel o.end_is) h (λ e. g)
 
-at_own : (m : Trailed) (l : Literal) (v : ℕ) (x : ℤ) → v ≡ l.var.0 → has_of (cell_of m l.var.0) x ≡ true → has_of (cell_of m v) x ≡ true
+at_own : (m : Box) (l : Literal) (v : ℕ) (x : ℤ) → v ≡ l.var.0 → has_of (cell_of m l.var.0) x ≡ true → has_of (cell_of m v) x ≡ true
 at_own m l v x e h = ap (λ (w : ℕ). has_of (cell_of m w) x) e ∙ h
 
-fails_there : (m : Trailed) (l : Literal) (ls : List Literal) (v : ℕ) (x : ℤ) → v ≡ l.var.0 → IsLeft m (Some l) ls v x → holds_at l x ≡ false
+fails_there : (m : Box) (l : Literal) (ls : List Literal) (v : ℕ) (x : ℤ) → v ≡ l.var.0 → IsLeft m (Some l) ls v x → holds_at l x ≡ false
 fails_there m l ls v x e left = survives-last v [] l x left.fails (sym e)
 
 above_unless : (x v : ℤ) → (x ≤ℤ v → ⊥) → (v +ℤ pos 1) ≤ℤ x
@@ -64,7 +64,7 @@ above_unless x v h = grind (arith, ints)
 below_unless : (x v : ℤ) → (v ≤ℤ x → ⊥) → x ≤ℤ (v -ℤ pos 1)
 below_unless x v h = grind (arith, ints)
 
-pub low_bound_is : (m : Trailed) (l : Literal) (v : ℕ) → v ≡ l.var.0 → l.rel ≡ Le → IsSane (cell_of m v) → IsOpenEnd (cell_of m) l
+pub low_bound_is : (m : Box) (l : Literal) (v : ℕ) → v ≡ l.var.0 → l.rel ≡ Le → IsSane (cell_of m v) → IsOpenEnd (cell_of m) l
     → IsLowBound m (Some l) v (l.value +ℤ pos 1)
 low_bound_is m l v e r s o =
     let k : IsCell (cell_of m v) = sane-cell (cell_of m v) s in
@@ -82,7 +82,7 @@ low_bound_is m l v e r s o =
       reached = λ x h le. a.low x (stays m l v x o h (holds_ge (negation l) x rel (omega (arith, ints))));
     }
 
-pub high_bound_is : (m : Trailed) (l : Literal) (v : ℕ) → v ≡ l.var.0 → l.rel ≡ Ge → IsSane (cell_of m v) → IsOpenEnd (cell_of m) l
+pub high_bound_is : (m : Box) (l : Literal) (v : ℕ) → v ≡ l.var.0 → l.rel ≡ Ge → IsSane (cell_of m v) → IsOpenEnd (cell_of m) l
     → IsHighBound m (Some l) v (l.value -ℤ pos 1)
 high_bound_is m l v e r s o =
     let k : IsCell (cell_of m v) = sane-cell (cell_of m v) s in
@@ -101,7 +101,7 @@ high_bound_is m l v e r s o =
     }
 
 -- an implied upper end leaves the cell's upper end, an implied lower end its lower one
-pub high_stays : (m : Trailed) (l : Literal) (v : ℕ) → v ≡ l.var.0 → l.rel ≡ Le → IsSane (cell_of m v) → IsOpenEnd (cell_of m) l
+pub high_stays : (m : Box) (l : Literal) (v : ℕ) → v ≡ l.var.0 → l.rel ≡ Le → IsSane (cell_of m v) → IsOpenEnd (cell_of m) l
     → hi_of (cell_of m v) ≤ℤ hi_of (asked m (Some l) v)
 high_stays m l v e r s o =
     let b : IsLowBound m (Some l) v (l.value +ℤ pos 1) = low_bound_is m l v e r s o in
@@ -112,7 +112,7 @@ high_stays m l v e r s o =
     let within : (l.value +ℤ pos 1) ≤ℤ hi_of (cell_of m v) = b.high in
     a.high (hi_of (cell_of m v)) (stays m l v (hi_of (cell_of m v)) o k.greatest (holds_ge (negation l) (hi_of (cell_of m v)) rel (omega (arith, ints))))
 
-pub low_stays : (m : Trailed) (l : Literal) (v : ℕ) → v ≡ l.var.0 → l.rel ≡ Ge → IsSane (cell_of m v) → IsOpenEnd (cell_of m) l
+pub low_stays : (m : Box) (l : Literal) (v : ℕ) → v ≡ l.var.0 → l.rel ≡ Ge → IsSane (cell_of m v) → IsOpenEnd (cell_of m) l
     → lo_of (asked m (Some l) v) ≤ℤ lo_of (cell_of m v)
 low_stays m l v e r s o =
     let b : IsHighBound m (Some l) v (l.value -ℤ pos 1) = high_bound_is m l v e r s o in
@@ -125,40 +125,40 @@ low_stays m l v e r s o =
 
 -- ---- how far values can lie beyond an end
 
-pub start_low : (m : Trailed) (v : ℕ) → IsBox m → v < length m.starts → lo_of (start_at m.starts v) ≤ℤ lo_of (cell_of m v)
+pub start_low : (m : Box) (v : ℕ) → IsBox m → v < length m.starts → lo_of (start_at m.starts v) ≤ℤ lo_of (cell_of m v)
 start_low m v s lt =
     let k : IsCell (cell_of m v) = sane-cell (cell_of m v) (s.cells v lt) in
     let t : IsCell (start_at m.starts v) = sane-cell (start_at m.starts v) (s.starts v lt) in
     t.low (lo_of (cell_of m v)) (from_start m v (lo_of (cell_of m v)) s lt k.least)
 
-pub start_high : (m : Trailed) (v : ℕ) → IsBox m → v < length m.starts → hi_of (cell_of m v) ≤ℤ hi_of (start_at m.starts v)
+pub start_high : (m : Box) (v : ℕ) → IsBox m → v < length m.starts → hi_of (cell_of m v) ≤ℤ hi_of (start_at m.starts v)
 start_high m v s lt =
     let k : IsCell (cell_of m v) = sane-cell (cell_of m v) (s.cells v lt) in
     let t : IsCell (start_at m.starts v) = sane-cell (start_at m.starts v) (s.starts v lt) in
     t.high (hi_of (cell_of m v)) (from_start m v (hi_of (cell_of m v)) s lt k.greatest)
 
-pub low_reach_whole : (m : Trailed) (implied : Option Literal) (v : ℕ) (gap : ℤ) → IsBox m → v < length m.starts
+pub low_reach_whole : (m : Box) (implied : Option Literal) (v : ℕ) (gap : ℤ) → IsBox m → v < length m.starts
     → lo_of (asked m implied v) ≤ℤ lo_of (cell_of m v) → (lo_of (start_at m.starts v) +ℤ gap) ≡ lo_of (cell_of m v) → IsReach Low m implied v gap
 low_reach_whole m implied v gap s lt stays e ls x left =
     let t : IsCell (start_at m.starts v) = sane-cell (start_at m.starts v) (s.starts v lt) in
     let low : lo_of (start_at m.starts v) ≤ℤ x = t.low x left.first in
     omega (arith, ints)
 
-pub high_reach_whole : (m : Trailed) (implied : Option Literal) (v : ℕ) (gap : ℤ) → IsBox m → v < length m.starts
+pub high_reach_whole : (m : Box) (implied : Option Literal) (v : ℕ) (gap : ℤ) → IsBox m → v < length m.starts
     → hi_of (cell_of m v) ≤ℤ hi_of (asked m implied v) → (hi_of (cell_of m v) +ℤ gap) ≡ hi_of (start_at m.starts v) → IsReach High m implied v gap
 high_reach_whole m implied v gap s lt stays e ls x left =
     let t : IsCell (start_at m.starts v) = sane-cell (start_at m.starts v) (s.starts v lt) in
     let high : x ≤ℤ hi_of (start_at m.starts v) = t.high x left.first in
     omega (arith, ints)
 
-pub low_reach_bound : (m : Trailed) (implied : Option Literal) (v : ℕ) (bound end gap : ℤ) → IsLowBound m implied v bound → IsCeiling (has_of (cell_of m v)) bound end
+pub low_reach_bound : (m : Box) (implied : Option Literal) (v : ℕ) (bound end gap : ℤ) → IsLowBound m implied v bound → IsCeiling (has_of (cell_of m v)) bound end
     → (bound +ℤ gap) ≡ end → IsReach Low m implied v gap
 low_reach_bound m implied v bound end gap b c e ls x left =
     let low : bound ≤ℤ x = b.left ls x left in
     let at_most : lo_of (asked m implied v) ≤ℤ end = b.reached end c.has c.at_least in
     omega (arith, ints)
 
-pub high_reach_bound : (m : Trailed) (implied : Option Literal) (v : ℕ) (bound end gap : ℤ) → IsHighBound m implied v bound → IsFloor (has_of (cell_of m v)) bound end
+pub high_reach_bound : (m : Box) (implied : Option Literal) (v : ℕ) (bound end gap : ℤ) → IsHighBound m implied v bound → IsFloor (has_of (cell_of m v)) bound end
     → (end +ℤ gap) ≡ bound → IsReach High m implied v gap
 high_reach_bound m implied v bound end gap b c e ls x left =
     let high : x ≤ℤ bound = b.left ls x left in
@@ -167,13 +167,13 @@ high_reach_bound m implied v bound end gap b c e ls x left =
 
 -- ---- what is told of an end
 
-pub low_end_told : (m : Trailed) (implied : Option Literal) (ls : List Literal) (v : ℕ) → lo_of (asked m implied v) ≤ℤ lo_of (cell_of m v) → CoversLow m ls v
+pub low_end_told : (m : Box) (implied : Option Literal) (ls : List Literal) (v : ℕ) → lo_of (asked m implied v) ≤ℤ lo_of (cell_of m v) → CoversLow m ls v
     → CoversEnd Low m implied ls v
 low_end_told m implied ls v stays c x left =
     let low : lo_of (cell_of m v) ≤ℤ x = c x left.first left.lives in
     omega (arith, ints)
 
-pub high_end_told : (m : Trailed) (implied : Option Literal) (ls : List Literal) (v : ℕ) → hi_of (cell_of m v) ≤ℤ hi_of (asked m implied v) → CoversHigh m ls v
+pub high_end_told : (m : Box) (implied : Option Literal) (ls : List Literal) (v : ℕ) → hi_of (cell_of m v) ≤ℤ hi_of (asked m implied v) → CoversHigh m ls v
     → CoversEnd High m implied ls v
 high_end_told m implied ls v stays c x left =
     let high : x ≤ℤ hi_of (cell_of m v) = c x left.first left.lives in
@@ -185,7 +185,7 @@ less_or_not x y = grind (arith, ints)
 too_low : (x end : ℤ) → x <ℤ end → end ≤ℤ x → ⊥
 too_low x end h g = omega (arith, ints)
 
-pub low_gap_told : (m : Trailed) (implied : Option Literal) (ls : List Literal) (v : ℕ) (bound end : ℤ) → IsSane (cell_of m v) → IsLowBound m implied v bound
+pub low_gap_told : (m : Box) (implied : Option Literal) (ls : List Literal) (v : ℕ) (bound end : ℤ) → IsSane (cell_of m v) → IsLowBound m implied v bound
     → IsCeiling (has_of (cell_of m v)) bound end → CoversBetween m ls v bound end → CoversEnd Low m implied ls v
 low_gap_told m implied ls v bound end s b c told x left =
     let k : IsCell (cell_of m v) = sane-cell (cell_of m v) s in
@@ -198,7 +198,7 @@ low_gap_told m implied ls v bound end s b c told x left =
       | inr more ↦ omega (arith, ints)
     ]
 
-pub high_gap_told : (m : Trailed) (implied : Option Literal) (ls : List Literal) (v : ℕ) (bound end : ℤ) → IsSane (cell_of m v) → IsHighBound m implied v bound
+pub high_gap_told : (m : Box) (implied : Option Literal) (ls : List Literal) (v : ℕ) (bound end : ℤ) → IsSane (cell_of m v) → IsHighBound m implied v bound
     → IsFloor (has_of (cell_of m v)) bound end → CoversBetween m ls v (end +ℤ pos 1) (bound +ℤ pos 1) → CoversEnd High m implied ls v
 high_gap_told m implied ls v bound end s b c told x left =
     let k : IsCell (cell_of m v) = sane-cell (cell_of m v) s in
@@ -213,7 +213,7 @@ high_gap_told m implied ls v bound end s b c told x left =
 
 -- ---- values of a domain between two numbers
 
-pub between_from_inside : (m : Trailed) (ls : List Literal) (v : ℕ) (begin end : ℤ) → CoversInside m ls v → CoversBetween m ls v begin end
+pub between_from_inside : (m : Box) (ls : List Literal) (v : ℕ) (begin end : ℤ) → CoversInside m ls v → CoversBetween m ls v begin end
 between_from_inside m ls v begin end c x has low high = c x has
 
 below_or_not : (k n : ℕ) → (k < n) ⊎ (n ≤ k)
@@ -233,7 +233,7 @@ place_below xs end x last k r lt is high =
       | inr more ↦ (let late : end ≤ℤ get_or xs k (pos 0) = r.from k more lt in absurd (omega (arith, ints)))
     ]
 
-pub between_from_ranks : (m : Trailed) (ls : List Literal) (v : ℕ) (xs : List ℤ) (begin end : ℤ) (first last : ℕ) → start_at m.starts v ≡ Values xs
+pub between_from_ranks : (m : Box) (ls : List Literal) (v : ℕ) (xs : List ℤ) (begin end : ℤ) (first last : ℕ) → start_at m.starts v ≡ Values xs
     → IsRank xs begin first → IsRank xs end last → CoversRanks m ls v xs first last → CoversBetween m ls v begin end
 between_from_ranks m ls v xs begin end first last e f l told x has low high =
     let t = among_place x xs (ap (λ (s : Start). has_of s x) (sym e) ∙ has) in
@@ -243,7 +243,7 @@ between_from_ranks m ls v xs begin end first last e f l told x has low high =
     let less : t.0 < last = place_below xs end x last t.0 l lt is high in
     subst (CoversValue m ls v) is (told t.0 at_least less)
 
-pub ranks_more : (m : Trailed) (v : ℕ) (old new : List Literal) (xs : List ℤ) (first at : ℕ) (x : ℤ) → AddsFine m old new → slice_get xs at ≡ Some x
+pub ranks_more : (m : Box) (v : ℕ) (old new : List Literal) (xs : List ℤ) (first at : ℕ) (x : ℤ) → AddsFine m old new → slice_get xs at ≡ Some x
     → CoversRanks m old v xs first at → CoversValue m new v x → CoversRanks m new v xs first (at + 1)
 ranks_more m v old new xs first at x a read before here k from less =
     below_more (λ k. (first ≤ k → CoversValue m new v (get_or xs k (pos 0)))) at (λ k lt ge. value-more m v old new (get_or xs k (pos 0)) a (before k ge lt))
@@ -268,30 +268,30 @@ survives-second v [] ys x h = h
 survives-second v (l ∷ ls) ys x h = survives-second v ls ys x (and_second (if v == l.var.0 then not (holds_at l x) else true) (survives v (ls ++ ys) x) h)
 
 -- a value of the refuted box fails the implied end
-asked_fails : (m : Trailed) (implied : Option Literal) (v : ℕ) (x : ℤ) → IsOpen (cell_of m) implied → has_of (asked m implied v) x ≡ true
+asked_fails : (m : Box) (implied : Option Literal) (v : ℕ) (x : ℤ) → IsOpen (cell_of m) implied → has_of (asked m implied v) x ≡ true
     → survives v (option_to_list implied) x ≡ true
 asked_fails m None v x o h = refl
 asked_fails m (Some l) v x o h =
-    survives-push v [] l x refl (λ e. not_true (holds_at l x) (sym (negation-holds l x) ∙ holds_there (cell_of m) (negation l) v x (end_negation l.rel o.end_is) (sym e) h))
+    survives-push v [] l x refl (λ e. not_true (holds_at l x) (sym (negation_holds l x) ∙ holds_there (cell_of m) (negation l) v x (end_negation l.rel o.end_is) (sym e) h))
 
-asked_in : (m : Trailed) (implied : Option Literal) (v : ℕ) (x : ℤ) → IsOpen (cell_of m) implied → has_of (asked m implied v) x ≡ true → has_of (cell_of m v) x ≡ true
+asked_in : (m : Box) (implied : Option Literal) (v : ℕ) (x : ℤ) → IsOpen (cell_of m) implied → has_of (asked m implied v) x ≡ true → has_of (cell_of m v) x ≡ true
 asked_in m None v x o h = h
 asked_in m (Some l) v x o h = kept_has (cell_of m) (negation l) v x (end_negation l.rel o.end_is) h
 
-pub sane_asked : (m : Trailed) (implied : Option Literal) (v : ℕ) → IsSane (cell_of m v) → IsOpen (cell_of m) implied → IsSane (asked m implied v)
+pub sane_asked : (m : Box) (implied : Option Literal) (v : ℕ) → IsSane (cell_of m v) → IsOpen (cell_of m) implied → IsSane (asked m implied v)
 sane_asked m None v s o = s
 sane_asked m (Some l) v s o = asked_sane m l v s o
 
-implied_suited : (m : Trailed) (implied : Option Literal) → IsOpen (cell_of m) implied → AllSuited m (option_to_list implied)
+implied_suited : (m : Box) (implied : Option Literal) → IsOpen (cell_of m) implied → AllSuited m (option_to_list implied)
 implied_suited m None o = tt
 implied_suited m (Some l) o = (suits_end (start_at m.starts l.var.0) l.rel o.end_is, tt)
 
 -- the box against fine literals and what is implied has values, and they are left
-pub record IsAgainst (m : Trailed) (implied : Option Literal) (front : List Literal) (c : Start) (v : ℕ) : Type 0 where
+pub record IsAgainst (m : Box) (implied : Option Literal) (front : List Literal) (c : Start) (v : ℕ) : Type 0 where
   pub sane : IsSane c
   pub left : (x : ℤ) → has_of c x ≡ true → IsLeft m implied front v x
 
-against_front : (m : Trailed) (implied : Option Literal) (front : List Literal) (v : ℕ) → IsBox m → v < length m.starts → AllFine m front
+against_front : (m : Box) (implied : Option Literal) (front : List Literal) (v : ℕ) → IsBox m → v < length m.starts → AllFine m front
     → IsOpen (cell_of m) implied → IsAgainst m implied front (against m (front ++ option_to_list implied) v) v
 against_front m implied front v s lt fine o =
     let suited : AllSuited m (front ++ option_to_list implied) = suited-append m front (option_to_list implied) (fine-suited m front fine) (implied_suited m implied o) in
@@ -317,13 +317,13 @@ against_front m implied front v s lt fine o =
           });
     }
 
-pub against_is : (m : Trailed) (implied : Option Literal) (front ls : List Literal) (v : ℕ) → IsBox m → v < length m.starts → AllFine m front
+pub against_is : (m : Box) (implied : Option Literal) (front ls : List Literal) (v : ℕ) → IsBox m → v < length m.starts → AllFine m front
     → IsOpen (cell_of m) implied → ls ≡ front ++ option_to_list implied → IsAgainst m implied front (against m ls v) v
 against_is m implied front ls v s lt fine o e =
     subst (λ (xs : List Literal). IsAgainst m implied front (against m xs v) v) (sym e) (against_front m implied front v s lt fine o)
 
 -- a clause of fine literals and what is implied, against which the starts are refuted, is a reason
-pub end_reason : (refuted : (ℕ → Start) → Bool) (m : Trailed) (implied : Option Literal) (front ls : List Literal) → IsBox m → IsCause refuted (cell_of m) implied
+pub end_reason : (refuted : (ℕ → Start) → Bool) (m : Box) (implied : Option Literal) (front ls : List Literal) → IsBox m → IsCause refuted (cell_of m) implied
     → IsRead (length m.starts) implied → AllFine m front → ls ≡ front ++ option_to_list implied → refuted (against m ls) ≡ true → IsReason refuted m implied ls
 end_reason refuted m None front ls s cause read fine e r = record { against_it = r; front = front; whole = e; fine = fine; last = tt }
 end_reason refuted m (Some l) front ls s cause read fine e r = record {
@@ -331,18 +331,19 @@ end_reason refuted m (Some l) front ls s cause read fine e r = record {
   front = front;
   whole = e;
   fine = fine;
-  last = (
-    record { value = cause.possible.value; has = from_start m l.var.0 cause.possible.value s read cause.possible.has; holds = cause.possible.holds },
-    suits_end (start_at m.starts l.var.0) l.rel cause.end_is,
-  );
+  last = record {
+    var = read;
+    possible = record { value = cause.possible.value; has = from_start m l.var.0 cause.possible.value s read cause.possible.has; holds = cause.possible.holds };
+    suit = suits_end (start_at m.starts l.var.0) l.rel cause.end_is;
+  };
 }
 
 -- a value that is left against more literals is left against fewer
-pub left_fewer : (m : Trailed) (implied : Option Literal) (v : ℕ) (old new : List Literal) (x : ℤ) → AddsFine m old new → IsLeft m implied new v x → IsLeft m implied old v x
+pub left_fewer : (m : Box) (implied : Option Literal) (v : ℕ) (old new : List Literal) (x : ℤ) → AddsFine m old new → IsLeft m implied new v x → IsLeft m implied old v x
 left_fewer m implied v old new x a left = record { first = left.first; lives = survives-fewer m v old new x a left.lives; fails = left.fails }
 
 -- the box that is refuted is so
-pub cause_refutes : (refuted : (ℕ → Start) → Bool) (m : Trailed) (implied : Option Literal) → IsCause refuted (cell_of m) implied → refuted (asked m implied) ≡ true
+pub cause_refutes : (refuted : (ℕ → Start) → Bool) (m : Box) (implied : Option Literal) → IsCause refuted (cell_of m) implied → refuted (asked m implied) ≡ true
 cause_refutes refuted m None c = c
 cause_refutes refuted m (Some l) c = c.refutes
 
@@ -356,13 +357,13 @@ asked_bound b vars n l below o = record {
 }
 
 -- what fits the cells fits the box that is refuted
-pub asked_fits : (m : Trailed) (implied : Option Literal) (vars : List VarId) (fits : (ℕ → Ends) → Type 0) → FitsLaw vars fits → AllBelow (length m.starts) vars
+pub asked_fits : (m : Box) (implied : Option Literal) (vars : List VarId) (fits : (ℕ → Ends) → Type 0) → FitsLaw vars fits → AllBelow (length m.starts) vars
     → IsBox m → IsOpen (cell_of m) implied → fits (hulls (cell_of m)) → fits (hulls (asked m implied))
 asked_fits m None vars fits law below s o f = f
 asked_fits m (Some l) vars fits law below s o f =
     kept-fits (cell_of m) vars (length m.starts) (negation l) fits law (asked_bound (cell_of m) vars (length m.starts) l below o) (box-sane m vars s below) f
 
-pub asked_all_sane : (m : Trailed) (implied : Option Literal) (vars : List VarId) → AllBelow (length m.starts) vars → IsBox m → IsOpen (cell_of m) implied
+pub asked_all_sane : (m : Box) (implied : Option Literal) (vars : List VarId) → AllBelow (length m.starts) vars → IsBox m → IsOpen (cell_of m) implied
     → AllSane (asked m implied) vars
 asked_all_sane m implied vars below s o =
     each_map (λ u. u.0 < length m.starts) (λ u. IsSane (asked m implied u.0)) vars (λ u lt. sane_asked m implied u.0 (s.cells u.0 lt) o) below

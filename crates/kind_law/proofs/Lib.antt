@@ -1,7 +1,13 @@
 pub mod ArgumentLaws
+pub mod AskedLaws
 pub mod BoundLaws
 pub mod ChangeLaws
 pub mod EachLaws
 pub mod EndLaws
+pub mod InsideLaws
 pub mod NextLaws
+pub mod OutputLaws
 pub mod ReasonLaws
+pub mod StepLaws
+pub mod ValidLaws
+pub mod VisitLaws

@@ -6,7 +6,7 @@ use Rattle.std.specs.Option.{option_to_list}
 use Rattle.std.proofs.lemmas.Option.{get_or_from_slice_get, slice_get_within}
 use Rattle.std.proofs.Common.{below_more}
 use Rattle.dom_core.specs.Rises.{is_among}
-use Rattle.dom_cells.specs.Box.{Trailed, start_at, cell_of, against, kept, cut_all, AllSuit, IsBox}
+use Rattle.dom_cells.specs.Box.{Box, start_at, cell_of, against, kept, cut_all, AllSuit, IsBox}
 use Rattle.dom_cells.specs.Cell.{has_of, lo_of, hi_of, cut_lo, cut_hi, Suits, IsSane, IsCell, IsPart, IsPossible}
 use Rattle.dom_core.specs.Literal.{holds_at, is_end, negation, opposite}
 use Rattle.dom_core.specs.declared.literal.Literal.{Literal}
@@ -15,9 +15,9 @@ use Rattle.dom_core.specs.declared.literal.Rel.TheVariants.{Le, Ge, Eq, Ne}
 use Rattle.dom_cells.specs.declared.start.Start.{Start}
 use Rattle.dom_cells.specs.declared.start.Start.TheVariants.{Values, Span}
 use Rattle.dom_core.specs.declared.var_id.VarId.{VarId}
-use Rattle.dom_cells.proofs.BoxLaws.{sane-cell, has-cut_all, sane-cut_all, holds_all, negation-holds, suits-negation, same_or_other, false_same, cut_at-other, cut_at-same}
+use Rattle.dom_cells.proofs.BoxLaws.{sane-cell, has-cut_all, sane-cut_all, holds_all, suits-negation, same_or_other, false_same, cut_at-other, cut_at-same}
 use Rattle.dom_core.proofs.TestLaws.{true_le, and_first, and_second, and_both, true_or_false, not_both, not_true}
-use Rattle.dom_core.proofs.LiteralLaws.{holds_le, fails_le, holds_ge, fails_ge, holds_eq, fails_eq}
+use Rattle.dom_core.proofs.LiteralLaws.{holds_le, fails_le, holds_ge, fails_ge, holds_eq, fails_eq, negation_holds, end_negation}
 use Rattle.dom_cells.proofs.KeptLaws.{suits_end}
 use Rattle.dom_core.proofs.RisesLaws.{or_right, among_read, among_cases}
 use Rattle.kind_law.specs.Laws.{Each, AllBelow, ShrinkLaw}
@@ -28,17 +28,17 @@ use Rattle.kind_law.proofs.EachLaws.{each_at, each_map, each_both, each_more}
 
 -- ---- lists that grow
 
-pub adds-none : (m : Trailed) (ls : List Literal) → AddsFine m ls ls
+pub adds-none : (m : Box) (ls : List Literal) → AddsFine m ls ls
 adds-none m ls = record { added = []; grown = sym (append-nil ls); fine = tt }
 
-pub adds-push : (m : Trailed) (ls new : List Literal) (l : Literal) → new ≡ ls ++ l ∷ [] → IsFine m l → AddsFine m ls new
+pub adds-push : (m : Box) (ls new : List Literal) (l : Literal) → new ≡ ls ++ l ∷ [] → IsFine m l → AddsFine m ls new
 adds-push m ls new l e f = record { added = l ∷ []; grown = e; fine = (f, tt) }
 
-fine-append : (m : Trailed) (xs ys : List Literal) → AllFine m xs → AllFine m ys → AllFine m (xs ++ ys)
+fine-append : (m : Box) (xs ys : List Literal) → AllFine m xs → AllFine m ys → AllFine m (xs ++ ys)
 fine-append m [] ys h g = g
 fine-append m (x ∷ xs) ys h g = (h.0, fine-append m xs ys h.1 g)
 
-pub adds-more : (m : Trailed) (a b c : List Literal) → AddsFine m a b → AddsFine m b c → AddsFine m a c
+pub adds-more : (m : Box) (a b c : List Literal) → AddsFine m a b → AddsFine m b c → AddsFine m a c
 adds-more m a b c f g = record {
   added = f.added ++ g.added;
   grown = g.grown ∙ ap (λ (xs : List Literal). xs ++ g.added) f.grown ∙ append_assoc a f.added g.added;
@@ -59,19 +59,19 @@ survives-last v [] l x h e =
 survives-last v (k ∷ ks) l x h e = survives-last v ks l x (and_second (if v == k.var.0 then not (holds_at k x) else true) (survives v (ks ++ l ∷ []) x) h) e
 
 -- what survives more literals survives fewer
-pub survives-fewer : (m : Trailed) (v : ℕ) (old new : List Literal) (x : ℤ) → AddsFine m old new → survives v new x ≡ true → survives v old x ≡ true
+pub survives-fewer : (m : Box) (v : ℕ) (old new : List Literal) (x : ℤ) → AddsFine m old new → survives v new x ≡ true → survives v old x ≡ true
 survives-fewer m v old new x a h = survives-append v old a.added x (ap (λ (ls : List Literal). survives v ls x) (sym a.grown) ∙ h)
 
-pub low-more : (m : Trailed) (v : ℕ) (old new : List Literal) → AddsFine m old new → CoversLow m old v → CoversLow m new v
+pub low-more : (m : Box) (v : ℕ) (old new : List Literal) → AddsFine m old new → CoversLow m old v → CoversLow m new v
 low-more m v old new a c x has s = c x has (survives-fewer m v old new x a s)
 
-pub high-more : (m : Trailed) (v : ℕ) (old new : List Literal) → AddsFine m old new → CoversHigh m old v → CoversHigh m new v
+pub high-more : (m : Box) (v : ℕ) (old new : List Literal) → AddsFine m old new → CoversHigh m old v → CoversHigh m new v
 high-more m v old new a c x has s = c x has (survives-fewer m v old new x a s)
 
-pub value-more : (m : Trailed) (v : ℕ) (old new : List Literal) (x : ℤ) → AddsFine m old new → CoversValue m old v x → CoversValue m new v x
+pub value-more : (m : Box) (v : ℕ) (old new : List Literal) (x : ℤ) → AddsFine m old new → CoversValue m old v x → CoversValue m new v x
 value-more m v old new x a c s = c (survives-fewer m v old new x a s)
 
-pub var-more : (m : Trailed) (v : ℕ) (deep : Bool) (old new : List Literal) → AddsFine m old new → CoversVar m old deep v → CoversVar m new deep v
+pub var-more : (m : Box) (v : ℕ) (deep : Bool) (old new : List Literal) → AddsFine m old new → CoversVar m old deep v → CoversVar m new deep v
 var-more m v deep old new a c = record {
   low = low-more m v old new a c.low;
   high = high-more m v old new a c.high;
@@ -80,12 +80,13 @@ var-more m v deep old new a c = record {
 
 -- ---- the literals of one variable
 
-pub low_fine : (m : Trailed) (u : VarId) → IsBox m → u.0 < length m.starts → lo_of (start_at m.starts u.0) <ℤ lo_of (cell_of m u.0)
+pub low_fine : (m : Box) (u : VarId) → IsBox m → u.0 < length m.starts → lo_of (start_at m.starts u.0) <ℤ lo_of (cell_of m u.0)
     → IsFine m (record { var = u; rel = Le; value = lo_of (cell_of m u.0) -ℤ pos 1 })
 low_fine m u s lt moved =
     let k : IsCell (cell_of m u.0) = sane-cell (cell_of m u.0) (s.cells u.0 lt) in
     let t : IsCell (start_at m.starts u.0) = sane-cell (start_at m.starts u.0) (s.starts u.0 lt) in
     record {
+      var = lt;
       fails = record {
         none = λ x h. (let low : lo_of (cell_of m u.0) ≤ℤ x = k.low x h in
             fails_le (record { var = u; rel = Le; value = lo_of (cell_of m u.0) -ℤ pos 1 }) x refl (omega (arith, ints)));
@@ -98,12 +99,13 @@ low_fine m u s lt moved =
       suit = suits_end (start_at m.starts u.0) Le refl;
     }
 
-pub high_fine : (m : Trailed) (u : VarId) → IsBox m → u.0 < length m.starts → hi_of (cell_of m u.0) <ℤ hi_of (start_at m.starts u.0)
+pub high_fine : (m : Box) (u : VarId) → IsBox m → u.0 < length m.starts → hi_of (cell_of m u.0) <ℤ hi_of (start_at m.starts u.0)
     → IsFine m (record { var = u; rel = Ge; value = hi_of (cell_of m u.0) +ℤ pos 1 })
 high_fine m u s lt moved =
     let k : IsCell (cell_of m u.0) = sane-cell (cell_of m u.0) (s.cells u.0 lt) in
     let t : IsCell (start_at m.starts u.0) = sane-cell (start_at m.starts u.0) (s.starts u.0 lt) in
     record {
+      var = lt;
       fails = record {
         none = λ x h. (let high : x ≤ℤ hi_of (cell_of m u.0) = k.high x h in
             fails_ge (record { var = u; rel = Ge; value = hi_of (cell_of m u.0) +ℤ pos 1 }) x refl (omega (arith, ints)));
@@ -116,9 +118,10 @@ high_fine m u s lt moved =
       suit = suits_end (start_at m.starts u.0) Ge refl;
     }
 
-pub hole_fine : (m : Trailed) (u : VarId) (x : ℤ) → IsListedAt (start_at m.starts u.0) x → has_of (cell_of m u.0) x ≡ false
+pub hole_fine : (m : Box) (u : VarId) (x : ℤ) → u.0 < length m.starts → IsListedAt (start_at m.starts u.0) x → has_of (cell_of m u.0) x ≡ false
     → IsFine m (record { var = u; rel = Eq; value = x })
-hole_fine m u x at gone = record {
+hole_fine m u x lt at gone = record {
+  var = lt;
   fails = record {
     none = λ y h. fails_eq (record { var = u; rel = Eq; value = x }) y refl
         (λ e. not_both (has_of (cell_of m u.0) y) h (ap (has_of (cell_of m u.0)) e ∙ gone));
@@ -133,33 +136,33 @@ above_if_fails x lo h = grind (arith, ints)
 below_if_fails : (x hi : ℤ) → ((hi +ℤ pos 1) ≤ℤ x → ⊥) → x ≤ℤ hi
 below_if_fails x hi h = grind (arith, ints)
 
-pub low_told : (m : Trailed) (u : VarId) (ls : List Literal) → CoversLow m (ls ++ record { var = u; rel = Le; value = lo_of (cell_of m u.0) -ℤ pos 1 } ∷ []) u.0
+pub low_told : (m : Box) (u : VarId) (ls : List Literal) → CoversLow m (ls ++ record { var = u; rel = Le; value = lo_of (cell_of m u.0) -ℤ pos 1 } ∷ []) u.0
 low_told m u ls x has s =
     let fails : holds_at (record { var = u; rel = Le; value = lo_of (cell_of m u.0) -ℤ pos 1 }) x ≡ false =
     survives-last u.0 ls (record { var = u; rel = Le; value = lo_of (cell_of m u.0) -ℤ pos 1 }) x s refl in
     above_if_fails x (lo_of (cell_of m u.0)) (λ h. not_both (holds_at (record { var = u; rel = Le; value = lo_of (cell_of m u.0) -ℤ pos 1 }) x)
     (holds_le (record { var = u; rel = Le; value = lo_of (cell_of m u.0) -ℤ pos 1 }) x refl h) fails)
 
-pub high_told : (m : Trailed) (u : VarId) (ls : List Literal) → CoversHigh m (ls ++ record { var = u; rel = Ge; value = hi_of (cell_of m u.0) +ℤ pos 1 } ∷ []) u.0
+pub high_told : (m : Box) (u : VarId) (ls : List Literal) → CoversHigh m (ls ++ record { var = u; rel = Ge; value = hi_of (cell_of m u.0) +ℤ pos 1 } ∷ []) u.0
 high_told m u ls x has s =
     let fails : holds_at (record { var = u; rel = Ge; value = hi_of (cell_of m u.0) +ℤ pos 1 }) x ≡ false =
     survives-last u.0 ls (record { var = u; rel = Ge; value = hi_of (cell_of m u.0) +ℤ pos 1 }) x s refl in
     below_if_fails x (hi_of (cell_of m u.0)) (λ h. not_both (holds_at (record { var = u; rel = Ge; value = hi_of (cell_of m u.0) +ℤ pos 1 }) x)
     (holds_ge (record { var = u; rel = Ge; value = hi_of (cell_of m u.0) +ℤ pos 1 }) x refl h) fails)
 
-pub low_still : (m : Trailed) (v : ℕ) (ls : List Literal) → IsBox m → v < length m.starts → lo_of (cell_of m v) ≤ℤ lo_of (start_at m.starts v) → CoversLow m ls v
+pub low_still : (m : Box) (v : ℕ) (ls : List Literal) → IsBox m → v < length m.starts → lo_of (cell_of m v) ≤ℤ lo_of (start_at m.starts v) → CoversLow m ls v
 low_still m v ls s lt le x has h =
     let t : IsCell (start_at m.starts v) = sane-cell (start_at m.starts v) (s.starts v lt) in
     let low : lo_of (start_at m.starts v) ≤ℤ x = t.low x has in
     omega (arith, ints)
 
-pub high_still : (m : Trailed) (v : ℕ) (ls : List Literal) → IsBox m → v < length m.starts → hi_of (start_at m.starts v) ≤ℤ hi_of (cell_of m v) → CoversHigh m ls v
+pub high_still : (m : Box) (v : ℕ) (ls : List Literal) → IsBox m → v < length m.starts → hi_of (start_at m.starts v) ≤ℤ hi_of (cell_of m v) → CoversHigh m ls v
 high_still m v ls s lt le x has h =
     let t : IsCell (start_at m.starts v) = sane-cell (start_at m.starts v) (s.starts v lt) in
     let high : x ≤ℤ hi_of (start_at m.starts v) = t.high x has in
     omega (arith, ints)
 
-pub hole_told : (m : Trailed) (u : VarId) (ls : List Literal) (x : ℤ) → CoversValue m (ls ++ record { var = u; rel = Eq; value = x } ∷ []) u.0 x
+pub hole_told : (m : Box) (u : VarId) (ls : List Literal) (x : ℤ) → CoversValue m (ls ++ record { var = u; rel = Eq; value = x } ∷ []) u.0 x
 hole_told m u ls x s low high =
     absurd (not_both (holds_at (record { var = u; rel = Eq; value = x }) x) (holds_eq (record { var = u; rel = Eq; value = x }) x refl refl)
     (survives-last u.0 ls (record { var = u; rel = Eq; value = x }) x s refl))
@@ -167,19 +170,19 @@ hole_told m u ls x s low high =
 -- ---- the starts against a reason
 
 -- each literal may cut its variable's start
-abbrev pub AllSuited : Trailed → List Literal → Type 0
+abbrev pub AllSuited : Box → List Literal → Type 0
 AllSuited m [] = Unit {0}
 AllSuited m (l ∷ ls) = Suits (start_at m.starts l.var.0) l.rel × AllSuited m ls
 
-pub fine-suited : (m : Trailed) (ls : List Literal) → AllFine m ls → AllSuited m ls
+pub fine-suited : (m : Box) (ls : List Literal) → AllFine m ls → AllSuited m ls
 fine-suited m [] h = tt
 fine-suited m (l ∷ ls) h = (h.0.suit, fine-suited m ls h.1)
 
-pub suited-append : (m : Trailed) (xs ys : List Literal) → AllSuited m xs → AllSuited m ys → AllSuited m (xs ++ ys)
+pub suited-append : (m : Box) (xs ys : List Literal) → AllSuited m xs → AllSuited m ys → AllSuited m (xs ++ ys)
 suited-append m [] ys h g = g
 suited-append m (x ∷ xs) ys h g = (h.0, suited-append m xs ys h.1 g)
 
-pub negations-suit : (m : Trailed) (v : ℕ) (ls : List Literal) → AllSuited m ls → AllSuit v (start_at m.starts v) (map negation ls)
+pub negations-suit : (m : Box) (v : ℕ) (ls : List Literal) → AllSuited m ls → AllSuit v (start_at m.starts v) (map negation ls)
 negations-suit m v [] h = tt
 negations-suit m v (l ∷ ls) h =
     ((λ e. subst (λ (w : ℕ). Suits (start_at m.starts w) (opposite l.rel)) (sym e) (suits-negation (start_at m.starts l.var.0) l h.0)), negations-suit m v ls h.1)
@@ -187,21 +190,21 @@ negations-suit m v (l ∷ ls) h =
 survives-is : (v : ℕ) (ls : List Literal) (x : ℤ) → holds_all v (map negation ls) x ≡ survives v ls x
 survives-is v [] x = refl
 survives-is v (l ∷ ls) x =
-    ap (λ (b : Bool). (if v == l.var.0 then b else true) && holds_all v (map negation ls) x) (negation-holds l x)
+    ap (λ (b : Bool). (if v == l.var.0 then b else true) && holds_all v (map negation ls) x) (negation_holds l x)
     ∙ ap (λ (b : Bool). (if v == l.var.0 then not (holds_at l x) else true) && b) (survives-is v ls x)
 
 -- a value against the reason is one of the start that survives
-pub against_has : (m : Trailed) (ls : List Literal) (v : ℕ) (x : ℤ) → AllSuited m ls → has_of (against m ls v) x ≡ (has_of (start_at m.starts v) x && survives v ls x)
+pub against_has : (m : Box) (ls : List Literal) (v : ℕ) (x : ℤ) → AllSuited m ls → has_of (against m ls v) x ≡ (has_of (start_at m.starts v) x && survives v ls x)
 against_has m ls v x h =
     has-cut_all v (start_at m.starts v) (map negation ls) x (negations-suit m v ls h) ∙ ap (λ (b : Bool). has_of (start_at m.starts v) x && b) (survives-is v ls x)
 
 -- values left are values of the start
-pub from_start : (m : Trailed) (v : ℕ) (x : ℤ) → IsBox m → v < length m.starts → has_of (cell_of m v) x ≡ true → has_of (start_at m.starts v) x ≡ true
+pub from_start : (m : Box) (v : ℕ) (x : ℤ) → IsBox m → v < length m.starts → has_of (cell_of m v) x ≡ true → has_of (start_at m.starts v) x ≡ true
 from_start m v x s lt h =
     and_first (has_of (start_at m.starts v) x) (holds_all v m.literals x) (sym (has-cut_all v (start_at m.starts v) m.literals x (s.suit v lt)) ∙ h)
 
 -- values left survive literals that fail there
-pub fine_survives : (m : Trailed) (v : ℕ) (ls : List Literal) (x : ℤ) → AllFine m ls → has_of (cell_of m v) x ≡ true → survives v ls x ≡ true
+pub fine_survives : (m : Box) (v : ℕ) (ls : List Literal) (x : ℤ) → AllFine m ls → has_of (cell_of m v) x ≡ true → survives v ls x ≡ true
 fine_survives m v [] x f h = refl
 fine_survives m v (l ∷ ls) x f h =
     and_both (if v == l.var.0 then not (holds_at l x) else true) (survives v ls x)
@@ -225,7 +228,7 @@ survives-push v (k ∷ ks) l x h gone =
     (survives-push v ks l x (and_second (if v == k.var.0 then not (holds_at k x) else true) (survives v ks x) h) gone)
 
 -- a smaller cell against the reason: value by value where it is deep, else by the ends
-shallow_part : (m : Trailed) (inside : Bool) (v : ℕ) (d : Start) → inside ≡ false → IsSane d → IsSane (cell_of m v)
+shallow_part : (m : Box) (inside : Bool) (v : ℕ) (d : Start) → inside ≡ false → IsSane d → IsSane (cell_of m v)
     → ((x : ℤ) → has_of d x ≡ true → (lo_of (cell_of m v) ≤ℤ x) × (x ≤ℤ hi_of (cell_of m v))) → IsPart inside d (cell_of m v)
 shallow_part m inside v d flat s t within =
     let k : IsCell d = sane-cell d s in
@@ -239,7 +242,7 @@ shallow_part m inside v d flat s t within =
 
 -- ---- a refuted box
 
-refuted_part : (m : Trailed) (front : List Literal) (inside : Bool) (v : ℕ) → IsBox m → v < length m.starts → AllFine m front → CoversVar m front inside v
+refuted_part : (m : Box) (front : List Literal) (inside : Bool) (v : ℕ) → IsBox m → v < length m.starts → AllFine m front → CoversVar m front inside v
     → IsPart inside (against m front v) (cell_of m v)
 refuted_part m front inside v s lt fine covers =
     let suited : AllSuited m front = fine-suited m front fine in
@@ -263,7 +266,7 @@ or_none : (b : Bool) → (b || false) ≡ b
 or_none true = refl
 or_none false = refl
 
-pub refuted_reason : (inside : ℕ → Bool) (vars : List VarId) (refuted : (ℕ → Start) → Bool) (m : Trailed) (front : List Literal) → ShrinkLaw inside vars refuted
+pub refuted_reason : (inside : ℕ → Bool) (vars : List VarId) (refuted : (ℕ → Start) → Bool) (m : Box) (front : List Literal) → ShrinkLaw inside vars refuted
     → IsBox m → AllBelow (length m.starts) vars → refuted (cell_of m) ≡ true → AllFine m front → Each (λ u. CoversVar m front (looks inside None u.0) u.0) vars
     → refuted (against m front) ≡ true
 refuted_reason inside vars refuted m front law s below r fine covers =
@@ -275,17 +278,11 @@ refuted_reason inside vars refuted m front law s below r fine covers =
 
 -- ---- an implied end
 
-pub end_negation : (r : Rel) → is_end r ≡ true → is_end (opposite r) ≡ true
-end_negation Le e = refl
-end_negation Ge e = refl
-end_negation Eq e = e
-end_negation Ne e = e
-
 or_first : (a b : Bool) → (a || b) ≡ false → a ≡ false
 or_first true b h = h
 or_first false b h = refl
 
-implied_part : (m : Trailed) (front : List Literal) (l : Literal) (inside : Bool) (v : ℕ) → IsBox m → v < length m.starts → AllFine m front
+implied_part : (m : Box) (front : List Literal) (l : Literal) (inside : Bool) (v : ℕ) → IsBox m → v < length m.starts → AllFine m front
     → is_end l.rel ≡ true → IsPossible (cell_of m l.var.0) (negation l) → CoversVar m front (inside || (l.var.0 == v)) v
     → IsPart inside (against m (front ++ l ∷ []) v) (kept (cell_of m) (negation l) v)
 implied_part m front l inside v s lt fine end open_still covers =
@@ -296,7 +293,7 @@ implied_part m front l inside v s lt fine end open_still covers =
     let k : IsCell (kept (cell_of m) (negation l) v) = sane-cell (kept (cell_of m) (negation l) v) b in
     let left : has_of (cell_of m v) (lo_of (kept (cell_of m) (negation l) v)) ≡ true = kept_has (cell_of m) (negation l) v (lo_of (kept (cell_of m) (negation l) v)) end' k.least in
     let fails : (x : ℤ) → has_of (kept (cell_of m) (negation l) v) x ≡ true → l.var.0 ≡ v → holds_at l x ≡ false =
-    λ x h e. not_true (holds_at l x) (sym (negation-holds l x) ∙ holds_there (cell_of m) (negation l) v x end' (sym e) h) in
+    λ x h e. not_true (holds_at l x) (sym (negation_holds l x) ∙ holds_there (cell_of m) (negation l) v x end' (sym e) h) in
     let kept_in : has_of (against m (front ++ l ∷ []) v) (lo_of (kept (cell_of m) (negation l) v)) ≡ true =
     against_has m (front ++ l ∷ []) v (lo_of (kept (cell_of m) (negation l) v)) suited
     ∙ and_both (has_of (start_at m.starts v) (lo_of (kept (cell_of m) (negation l) v))) (survives v (front ++ l ∷ []) (lo_of (kept (cell_of m) (negation l) v)))
@@ -315,7 +312,7 @@ implied_part m front l inside v s lt fine end open_still covers =
       | inl deep ↦ part inside (against m (front ++ l ∷ []) v) (kept (cell_of m) (negation l) v) d b
           (λ x h. in_kept (cell_of m) (negation l) v x end'
           (covers.inner deep x (start_of x h) (before x h) (covers.low x (start_of x h) (before x h)) (covers.high x (start_of x h) (before x h)))
-          (λ e. negation-holds l x ∙ ap not (survives-last v front l x (lives x h) (sym e))))
+          (λ e. negation_holds l x ∙ ap not (survives-last v front l x (lives x h) (sym e))))
       | inr flat ↦ (let apart : v ≡ l.var.0 → ⊥ = λ e. not_both (inside || (l.var.0 == v)) (or_right inside (l.var.0 == v) ((Decides-eqb l.var.0 v).1 (sym e))) flat in
           let same : kept (cell_of m) (negation l) v ≡ cell_of m v = cut_at-other v (cell_of m v) (negation l) apart in
           subst (IsPart inside (against m (front ++ l ∷ []) v)) (sym same)
@@ -323,7 +320,7 @@ implied_part m front l inside v s lt fine end open_still covers =
           (λ x h. (covers.low x (start_of x h) (before x h), covers.high x (start_of x h) (before x h)))))
     ]
 
-pub implied_reason : (inside : ℕ → Bool) (vars : List VarId) (refuted : (ℕ → Start) → Bool) (m : Trailed) (front : List Literal) (l : Literal)
+pub implied_reason : (inside : ℕ → Bool) (vars : List VarId) (refuted : (ℕ → Start) → Bool) (m : Box) (front : List Literal) (l : Literal)
     → ShrinkLaw inside vars refuted → IsBox m → AllBelow (length m.starts) vars → IsImplied refuted (cell_of m) l → AllFine m front
     → Each (λ u. CoversVar m front (looks inside (Some l) u.0) u.0) vars → refuted (against m (front ++ l ∷ [])) ≡ true
 implied_reason inside vars refuted m front l law s below i fine covers =
@@ -335,7 +332,7 @@ implied_reason inside vars refuted m front l law s below i fine covers =
     }) i.refutes
 
 -- a clause that covers the kind's variables, with what is implied, is a reason
-pub reason_is : (inside : ℕ → Bool) (vars : List VarId) (refuted : (ℕ → Start) → Bool) (m : Trailed) (implied : Option Literal) (front ls : List Literal)
+pub reason_is : (inside : ℕ → Bool) (vars : List VarId) (refuted : (ℕ → Start) → Bool) (m : Box) (implied : Option Literal) (front ls : List Literal)
     → ShrinkLaw inside vars refuted → IsBox m → AllBelow (length m.starts) vars → IsCause refuted (cell_of m) implied → IsRead (length m.starts) implied
     → AllFine m front → Each (λ u. CoversVar m front (looks inside implied u.0) u.0) vars → ls ≡ front ++ option_to_list implied → IsReason refuted m implied ls
 reason_is inside vars refuted m None front ls law s below cause read fine covers e =
@@ -352,10 +349,11 @@ reason_is inside vars refuted m (Some l) front ls law s below cause read fine co
       front = front;
       whole = e;
       fine = fine;
-      last = (
-        record { value = cause.possible.value; has = from_start m l.var.0 cause.possible.value s read cause.possible.has; holds = cause.possible.holds },
-        suits_end (start_at m.starts l.var.0) l.rel cause.end_is,
-      );
+      last = record {
+        var = read;
+        possible = record { value = cause.possible.value; has = from_start m l.var.0 cause.possible.value s read cause.possible.has; holds = cause.possible.holds };
+        suit = suits_end (start_at m.starts l.var.0) l.rel cause.end_is;
+      };
     }
 
 -- ---- going through a start
@@ -377,14 +375,14 @@ among_place x (y ∷ ys) h =
       | inr later ↦ (let t = among_place x ys later in let lt : t.0 < length ys = t.1 in (suc t.0, omega arith, t.2))
     ]
 
-pub inside_from_values : (m : Trailed) (v : ℕ) (ls : List Literal) (xs : List ℤ) (n : ℕ) → start_at m.starts v ≡ Values xs → length xs ≤ n
+pub inside_from_values : (m : Box) (v : ℕ) (ls : List Literal) (xs : List ℤ) (n : ℕ) → start_at m.starts v ≡ Values xs → length xs ≤ n
     → ((k : ℕ) → k < n → CoversValue m ls v (get_or xs k (pos 0))) → CoversInside m ls v
 inside_from_values m v ls xs n e le covers x has =
     let t = among_place x xs (ap (λ (s : Start). has_of s x) (sym e) ∙ has) in
     let lt : t.0 < length xs = t.1 in
     subst (CoversValue m ls v) t.2 (covers t.0 (omega arith))
 
-pub values-step : (m : Trailed) (v : ℕ) (old new : List Literal) (xs : List ℤ) (at : ℕ) (x : ℤ) → AddsFine m old new → slice_get xs at ≡ Some x
+pub values-step : (m : Box) (v : ℕ) (old new : List Literal) (xs : List ℤ) (at : ℕ) (x : ℤ) → AddsFine m old new → slice_get xs at ≡ Some x
     → ((k : ℕ) → k < at → CoversValue m old v (get_or xs k (pos 0))) → CoversValue m new v x → (k : ℕ) → k < at + 1 → CoversValue m new v (get_or xs k (pos 0))
 values-step m v old new xs at x a read before here =
     below_more (λ k. CoversValue m new v (get_or xs k (pos 0))) at (λ k lt. value-more m v old new (get_or xs k (pos 0)) a (before k lt))
@@ -406,14 +404,14 @@ between_has s lo hi x e low high =
     ap (λ (t : Start). has_of t x) e ∙ and_both (int_le lo x) (int_le x hi) (true_le lo x a) (true_le x hi b)
 
 -- a span has no holes
-pub span_inside : (m : Trailed) (v : ℕ) (ls : List Literal) (a b : ℤ) → start_at m.starts v ≡ Span a b → CoversInside m ls v
+pub span_inside : (m : Box) (v : ℕ) (ls : List Literal) (a b : ℤ) → start_at m.starts v ≡ Span a b → CoversInside m ls v
 span_inside m v ls a b e x has s low high =
     let t = span_stays v a b m.literals in
     between_has (cell_of m v) t.0 t.1 x (ap (λ (c : Start). cut_all v c m.literals) e ∙ t.2) low high
 
 -- ---- the kind's variables one by one
 
-pub vars-more : (m : Trailed) (inside : ℕ → Bool) (implied : Option Literal) (vars : List VarId) (i : ℕ) (u : VarId) (deep : Bool) (old new : List Literal)
+pub vars-more : (m : Box) (inside : ℕ → Bool) (implied : Option Literal) (vars : List VarId) (i : ℕ) (u : VarId) (deep : Bool) (old new : List Literal)
     → AddsFine m old new → deep ≡ looks inside implied u.0 → slice_get vars i ≡ Some u
     → Each (λ w. CoversVar m old (looks inside implied w.0) w.0) (take i vars) → CoversVar m new deep u.0
     → Each (λ w. CoversVar m new (looks inside implied w.0) w.0) (take (i + 1) vars)
@@ -423,7 +421,7 @@ vars-more m inside implied vars i u deep old new a d read before here =
     (λ w c. var-more m w.0 (looks inside implied w.0) old new a c) before)
     read (subst (λ (b : Bool). CoversVar m new b u.0) d here)
 
-pub fine-from : (m : Trailed) (old new : List Literal) → old ≡ [] → AddsFine m old new → AllFine m new
+pub fine-from : (m : Box) (old new : List Literal) → old ≡ [] → AddsFine m old new → AllFine m new
 fine-from m old new e a = subst (AllFine m) (sym (a.grown ∙ ap (λ (xs : List Literal). xs ++ a.added) e)) a.fine
 
 -- ---- what is implied can be explained
@@ -460,7 +458,7 @@ end_cause refuted b u Eq v s e = absurd e
 end_cause refuted b u Ne v s e = absurd e
 
 -- what the first implied end gives is a cause of a reason
-pub next_cause : (refuted : (ℕ → Start) → Bool) (vars : List VarId) (m : Trailed) (l : Literal) → IsBox m → AllBelow (length m.starts) vars
+pub next_cause : (refuted : (ℕ → Start) → Bool) (vars : List VarId) (m : Box) (l : Literal) → IsBox m → AllBelow (length m.starts) vars
     → IsNext refuted vars (cell_of m) (Some l) → (l.var.0 < length m.starts) × IsImplied refuted (cell_of m) l
 next_cause refuted vars m l s below n =
     let lt : l.var.0 < length m.starts = each_at (λ u. u.0 < length m.starts) vars n.0 l.var below n.2 in

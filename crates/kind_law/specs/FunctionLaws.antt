@@ -1,37 +1,18 @@
 -- Laws of outputs that have the value of a function.
-use Rattle.std.proofs.Common.{◌≡◌, Bool, true, false, not, ◌&&◌, ◌||◌, ℤ, pos, ◌-ℤ◌, ◌≤ℤ◌, ◌<ℤ◌, int_le, int_lt, refl, ◌∙◌, ap, arith, inl, inr}
+use Rattle.std.proofs.Common.{◌≡◌, Bool, true, false, not, ◌&&◌, ◌||◌, ℤ, pos, ◌-ℤ◌, ◌≤ℤ◌, ◌<ℤ◌, int_le, int_lt, ◌∙◌, ap, arith, inl, inr}
 use Rattle.std.proofs.lemmas.Int.{ints}
 use Rattle.std.specs.Ordering.{int_eq}
 use Rattle.dom_core.specs.Ends.{Ends, only, lies_in}
 use Rattle.dom_core.specs.declared.view.Movement.{Movement}
-use Rattle.dom_core.proofs.TestLaws.{le_true, true_le, and_first, and_second, and_both, not_both, true_or_false}
+use Rattle.dom_core.proofs.TestLaws.{le_true, true_lt, and_first, and_second, neither, not_both, not_true, true_or_false}
+use Rattle.dom_core.proofs.EndsLaws.{lies, lies_low, lies_high}
 use Rattle.dom_core.proofs.RisesLaws.{same_test, int_eq_same, int_eq_from, or_true, or_left, or_right}
 use Rattle.dom_core.proofs.ProductLaws.{lt_true, lt_false}
 use Rattle.kind_law.specs.Laws.{EndsIn}
 use Rattle.kind_law.specs.Function.{have_none, is_one, are_one, stays_at, truth_kept, function_kept}
 
-true_lt : (a b : ℤ) → a <ℤ b → int_lt a b ≡ true
-true_lt a b h = grind (arith, ints)
-
-lies_low : (x : ℤ) (e : Ends) → lies_in x e ≡ true → e.lo ≤ℤ x
-lies_low x e h = le_true e.lo x (and_first (int_le e.lo x) (int_le x e.hi) h)
-
-lies_high : (x : ℤ) (e : Ends) → lies_in x e ≡ true → x ≤ℤ e.hi
-lies_high x e h = le_true x e.hi (and_second (int_le e.lo x) (int_le x e.hi) h)
-
-lies : (x : ℤ) (e : Ends) → e.lo ≤ℤ x → x ≤ℤ e.hi → lies_in x e ≡ true
-lies x e h g = and_both (int_le e.lo x) (int_le x e.hi) (true_le e.lo x h) (true_le x e.hi g)
-
 not_of : (b : Bool) → b ≡ false → not b ≡ true
 not_of b e = ap not e
-
-from_not : (b : Bool) → not b ≡ true → b ≡ false
-from_not true h = absurd (cc)
-from_not false h = refl
-
-neither : (a b : Bool) → (a || b) ≡ false → (a ≡ false) × (b ≡ false)
-neither true b h = absurd (cc)
-neither false b h = (refl, h)
 
 -- smaller intervals have no more integers in common
 pub none_smaller : (a b small_a small_b : Ends) → EndsIn small_a a → EndsIn small_b b → have_none a b ≡ true → have_none small_a small_b ≡ true
@@ -60,7 +41,7 @@ none_only x e order =
     ]))
     (λ h. elim (true_or_false (have_none (only x) e)) [
       | inl t ↦ t
-      | inr f ↦ absurd (not_both (lies_in x e) (lies x e (lt_false x e.lo (neither (int_lt x e.lo) (int_lt e.hi x) f).0) (lt_false e.hi x (neither (int_lt x e.lo) (int_lt e.hi x) f).1)) (from_not (lies_in x e) h))
+      | inr f ↦ absurd (not_both (lies_in x e) (lies x e (lt_false x e.lo (neither (int_lt x e.lo) (int_lt e.hi x) f).0) (lt_false e.hi x (neither (int_lt x e.lo) (int_lt e.hi x) f).1)) (not_true (lies_in x e) h))
     ])
 
 -- two integers have none in common exactly where they differ

@@ -1,10 +1,15 @@
 pub mod Argument
+pub mod Asked
 pub mod DefineLaws
 pub mod Function
 pub mod FunctionLaws
+pub mod Inside
 pub mod Laws
 pub mod Next
+pub mod Output
 pub mod Reason
+pub mod Steps
+pub mod Visit
 pub use Rattle.dom_core.specs.Assignment
 pub use Rattle.dom_cells.specs.Box
 pub use Rattle.dom_cells.specs.Cell

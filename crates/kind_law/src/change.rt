@@ -1,26 +1,31 @@
 //! The change of a defined variable.
-ghost use Rattle.std.specs.Prelude.{◌≡◌, FitsSigned, length};
-ghost use Rattle.std.specs.Int.{w128};
-ghost use Rattle.dom_core.specs.Ends.{difference_ends};
-ghost use Rattle.kind_law.specs.Laws.{AllBelow};
-ghost use Rattle.kind_law.specs.DefineLaws.{changed_by, all_still, is_still};
+ghost use Rattle.std.specs.Prelude.{◌≡◌, false, length};
+ghost use Rattle.dom_core.specs.Ends.{HasBits, difference_ends};
+ghost use Rattle.kind_law.specs.Laws.{AllBelow, all_still, is_still};
+ghost use Rattle.kind_law.specs.DefineLaws.{changed_by};
 
 use dom_core::{Interval, VarId, View};
 
-/// The change: 0 where no input moves, else what the row of changes and the ranges before and after both allow.
-pub fn change_by(still: bool, row: Interval, before: Interval, after: Interval) -> Interval
-    requires low { FitsSigned w128 (difference_ends after before).lo }
-    requires high { FitsSigned w128 (difference_ends after before).hi }
-    ensures { result ≡ changed_by still row before after }
+/// What the row of changes and the ranges before and after both allow, or the ranges alone where that is nothing.
+pub fn change_by(row: Interval, before: Interval, after: Interval) -> Interval
+    requires before { HasBits 102 before }
+    requires after { HasBits 102 after }
+    ensures { result ≡ changed_by false row before after }
 {
-    if still {
-        return Interval::new(0, 0);
-    }
-    let difference = Interval::new(after.lo() - before.hi(), after.hi() - before.lo());
+    let difference = difference_of(after, before);
     match row.meet(difference) {
         Some(both) => both,
         None => difference,
     }
+}
+
+/// The differences of an integer of the one and an integer of the other.
+pub fn difference_of(after: Interval, before: Interval) -> Interval
+    requires after { HasBits 102 after }
+    requires before { HasBits 102 before }
+    ensures { result ≡ difference_ends after before }
+{
+    Interval::new(after.lo() - before.hi(), after.hi() - before.lo())
 }
 
 /// Whether the view moves none of the variables.

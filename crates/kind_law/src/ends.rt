@@ -13,9 +13,9 @@ use std::alloc::AllocError;
 /// How far beyond this end of the refuted box a value can lie, whatever the reason tells of the variable. Where it is 0
 /// nothing need be told.
 pub fn reach(cells: &Cells, implied: Option<Literal>, side: Side, var: VarId) -> u64
-    requires var { var.0 < length cells.now.starts }
-    requires open { IsOpen (cell_of cells.now) implied }
-    ensures { IsReach side cells.now implied var.0 (pos result) }
+    requires var { var.0 < length cells.now.state.starts }
+    requires open { IsOpen (cell_of cells.now.state) implied }
+    ensures { IsReach side cells.now.state implied var.0 (pos result) }
 {
     match side {
         Side::Low => low_reach(cells, implied, var),
@@ -32,10 +32,10 @@ pub fn explain_end(
     var: VarId,
     out: &mut Clause,
 ) -> Result<(), AllocError>
-    requires var { var.0 < length cells.now.starts }
-    requires open { IsOpen (cell_of cells.now) implied }
-    ensures fine { OnOk result (AddsFine cells.now out.old out.new) }
-    ensures covers { OnOk result (CoversEnd side cells.now implied out.new var.0) }
+    requires var { var.0 < length cells.now.state.starts }
+    requires open { IsOpen (cell_of cells.now.state) implied }
+    ensures fine { OnOk result (AddsFine cells.now.state out.old out.new) }
+    ensures covers { OnOk result (CoversEnd side cells.now.state implied out.new var.0) }
 {
     match side {
         Side::Low => explain_low_end(cells, implied, var, out),
@@ -44,9 +44,9 @@ pub fn explain_end(
 }
 
 fn low_reach(cells: &Cells, implied: Option<Literal>, var: VarId) -> u64
-    requires var { var.0 < length cells.now.starts }
-    requires open { IsOpen (cell_of cells.now) implied }
-    ensures { IsReach Side.Low cells.now implied var.0 (pos result) }
+    requires var { var.0 < length cells.now.state.starts }
+    requires open { IsOpen (cell_of cells.now.state) implied }
+    ensures { IsReach Side.Low cells.now.state implied var.0 (pos result) }
 {
     let lo = cells.lo(var);
     match low_bound(cells, implied, var) {
@@ -56,9 +56,9 @@ fn low_reach(cells: &Cells, implied: Option<Literal>, var: VarId) -> u64
 }
 
 fn high_reach(cells: &Cells, implied: Option<Literal>, var: VarId) -> u64
-    requires var { var.0 < length cells.now.starts }
-    requires open { IsOpen (cell_of cells.now) implied }
-    ensures { IsReach Side.High cells.now implied var.0 (pos result) }
+    requires var { var.0 < length cells.now.state.starts }
+    requires open { IsOpen (cell_of cells.now.state) implied }
+    ensures { IsReach Side.High cells.now.state implied var.0 (pos result) }
 {
     let hi = cells.hi(var);
     match high_bound(cells, implied, var) {
@@ -81,10 +81,10 @@ fn explain_low_end(
     var: VarId,
     out: &mut Clause,
 ) -> Result<(), AllocError>
-    requires var { var.0 < length cells.now.starts }
-    requires open { IsOpen (cell_of cells.now) implied }
-    ensures fine { OnOk result (AddsFine cells.now out.old out.new) }
-    ensures covers { OnOk result (CoversEnd Side.Low cells.now implied out.new var.0) }
+    requires var { var.0 < length cells.now.state.starts }
+    requires open { IsOpen (cell_of cells.now.state) implied }
+    ensures fine { OnOk result (AddsFine cells.now.state out.old out.new) }
+    ensures covers { OnOk result (CoversEnd Side.Low cells.now.state implied out.new var.0) }
 {
     let _lo = cells.lo(var);
     match low_bound(cells, implied, var) {
@@ -103,10 +103,10 @@ fn explain_high_end(
     var: VarId,
     out: &mut Clause,
 ) -> Result<(), AllocError>
-    requires var { var.0 < length cells.now.starts }
-    requires open { IsOpen (cell_of cells.now) implied }
-    ensures fine { OnOk result (AddsFine cells.now out.old out.new) }
-    ensures covers { OnOk result (CoversEnd Side.High cells.now implied out.new var.0) }
+    requires var { var.0 < length cells.now.state.starts }
+    requires open { IsOpen (cell_of cells.now.state) implied }
+    ensures fine { OnOk result (AddsFine cells.now.state out.old out.new) }
+    ensures covers { OnOk result (CoversEnd Side.High cells.now.state implied out.new var.0) }
 {
     let _hi = cells.hi(var);
     match high_bound(cells, implied, var) {
@@ -120,10 +120,10 @@ fn explain_high_end(
 }
 
 /// The lower bound that the failing of the implied end puts on the variable's cell, where it does.
-fn low_bound(cells: &Cells, implied: Option<Literal>, var: VarId) -> Option<i64>
-    requires var { var.0 < length cells.now.starts }
-    requires open { IsOpen (cell_of cells.now) implied }
-    ensures { IsOwnLow cells.now implied var.0 result }
+pub(crate) fn low_bound(cells: &Cells, implied: Option<Literal>, var: VarId) -> Option<i64>
+    requires var { var.0 < length cells.now.state.starts }
+    requires open { IsOpen (cell_of cells.now.state) implied }
+    ensures { IsOwnLow cells.now.state implied var.0 result }
 {
     match implied {
         None => None,
@@ -133,9 +133,9 @@ fn low_bound(cells: &Cells, implied: Option<Literal>, var: VarId) -> Option<i64>
 
 /// The lower bound that the failing of the literal puts on the variable's cell, where it does.
 fn low_bound_of(cells: &Cells, literal: Literal, var: VarId) -> Option<i64>
-    requires var { var.0 < length cells.now.starts }
-    requires open { IsOpenEnd (cell_of cells.now) literal }
-    ensures { IsOwnLow cells.now (Some literal) var.0 result }
+    requires var { var.0 < length cells.now.state.starts }
+    requires open { IsOpenEnd (cell_of cells.now.state) literal }
+    ensures { IsOwnLow cells.now.state (Some literal) var.0 result }
 {
     let _hi = cells.hi(var);
     if literal.var.0 != var.0 {
@@ -148,10 +148,10 @@ fn low_bound_of(cells: &Cells, literal: Literal, var: VarId) -> Option<i64>
 }
 
 /// The upper bound that the failing of the implied end puts on the variable's cell, where it does.
-fn high_bound(cells: &Cells, implied: Option<Literal>, var: VarId) -> Option<i64>
-    requires var { var.0 < length cells.now.starts }
-    requires open { IsOpen (cell_of cells.now) implied }
-    ensures { IsOwnHigh cells.now implied var.0 result }
+pub(crate) fn high_bound(cells: &Cells, implied: Option<Literal>, var: VarId) -> Option<i64>
+    requires var { var.0 < length cells.now.state.starts }
+    requires open { IsOpen (cell_of cells.now.state) implied }
+    ensures { IsOwnHigh cells.now.state implied var.0 result }
 {
     match implied {
         None => None,
@@ -161,9 +161,9 @@ fn high_bound(cells: &Cells, implied: Option<Literal>, var: VarId) -> Option<i64
 
 /// The upper bound that the failing of the literal puts on the variable's cell, where it does.
 fn high_bound_of(cells: &Cells, literal: Literal, var: VarId) -> Option<i64>
-    requires var { var.0 < length cells.now.starts }
-    requires open { IsOpenEnd (cell_of cells.now) literal }
-    ensures { IsOwnHigh cells.now (Some literal) var.0 result }
+    requires var { var.0 < length cells.now.state.starts }
+    requires open { IsOpenEnd (cell_of cells.now.state) literal }
+    ensures { IsOwnHigh cells.now.state (Some literal) var.0 result }
 {
     let _lo = cells.lo(var);
     if literal.var.0 != var.0 {
@@ -177,8 +177,8 @@ fn high_bound_of(cells: &Cells, literal: Literal, var: VarId) -> Option<i64>
 
 /// The literal that holds where the implied one fails.
 pub fn failing(cells: &Cells, literal: Literal) -> Literal
-    requires var { literal.var.0 < length cells.now.starts }
-    requires open { IsOpenEnd (cell_of cells.now) literal }
+    requires var { literal.var.0 < length cells.now.state.starts }
+    requires open { IsOpenEnd (cell_of cells.now.state) literal }
     ensures { result ≡ negation literal }
 {
     let _lo = cells.lo(literal.var);
@@ -198,16 +198,16 @@ pub fn failing(cells: &Cells, literal: Literal) -> Literal
 }
 
 /// Tells which values from the one number up to the other, this one left out, are gone.
-fn explain_between(
+pub(crate) fn explain_between(
     cells: &Cells,
     var: VarId,
     begin: i64,
     end: i64,
     out: &mut Clause,
 ) -> Result<(), AllocError>
-    requires { var.0 < length cells.now.starts }
-    ensures fine { OnOk result (AddsFine cells.now out.old out.new) }
-    ensures covers { OnOk result (CoversBetween cells.now out.new var.0 begin end) }
+    requires { var.0 < length cells.now.state.starts }
+    ensures fine { OnOk result (AddsFine cells.now.state out.old out.new) }
+    ensures covers { OnOk result (CoversBetween cells.now.state out.new var.0 begin end) }
 {
     match cells.start(var) {
         Start::Span { .. } => {
@@ -232,11 +232,11 @@ fn explain_ranks(
     last: usize,
     out: &mut Clause,
 ) -> Result<(), AllocError>
-    requires var { var.0 < length cells.now.starts }
-    requires start { start_at cells.now.starts var.0 ≡ Start.Values domain.now }
+    requires var { var.0 < length cells.now.state.starts }
+    requires start { start_at cells.now.state.starts var.0 ≡ Start.Values domain.now }
     requires last { last ≤ length domain.now }
-    ensures fine { OnOk result (AddsFine cells.now out.old out.new) }
-    ensures covers { OnOk result (CoversRanks cells.now out.new var.0 domain.now first last) }
+    ensures fine { OnOk result (AddsFine cells.now.state out.old out.new) }
+    ensures covers { OnOk result (CoversRanks cells.now.state out.new var.0 domain.now first last) }
 {
     for at in first..last {
         let value = domain.value_at(at);

@@ -47,7 +47,7 @@ fn is_alone(interval: Interval, value: i128) -> bool
 }
 
 /// Whether the intervals are one number, and the same.
-fn are_same(a: Interval, b: Interval) -> bool
+pub fn are_same(a: Interval, b: Interval) -> bool
     ensures { result ≡ are_one a b }
 {
     a.lo() == a.hi() && is_alone(b, a.lo())

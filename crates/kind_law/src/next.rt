@@ -8,14 +8,15 @@ ghost use Rattle.kind_law.specs.Next.{IsNext, trim, size_of, steps_refuted, IsDe
 use crate::kind::Kind;
 use crate::probe::{Probe, Whole};
 use crate::side::Side;
+use crate::steps::distance;
 use dom_cells::Cells;
 use dom_core::{Literal, Rel, VarId};
 
 /// The first implied end, in the order of the kind's variables, the lower end of each first.
 pub fn next_of<K: Kind>(kind: &K, cells: &Cells) -> Option<Literal>
-    requires below { AllBelow (length cells.now.starts) (K.vars kind.now) }
-    requires fits { K.fits kind.now (hulls (cell_of cells.now)) }
-    ensures { IsNext (K.refuted kind.now) (K.vars kind.now) (cell_of cells.now) result }
+    requires below { AllBelow (length cells.now.state.starts) (K.vars kind.now) }
+    requires fits { K.fits kind.now (hulls (cell_of cells.now.state)) }
+    ensures { IsNext (K.refuted kind.now) (K.vars kind.now) (cell_of cells.now.state) result }
 {
     for var in kind.vars() {
         let end = first_end(&Whole(kind), cells, *var);
@@ -28,9 +29,9 @@ pub fn next_of<K: Kind>(kind: &K, cells: &Cells) -> Option<Literal>
 
 /// The end of one variable's cell that the kind implies, the lower one first, found by asking about the whole box.
 pub fn end_of_var<K: Kind>(kind: &K, cells: &Cells, var: VarId) -> Option<Literal>
-    requires var { IsReadable (K.vars kind.now) (length cells.now.starts) var }
-    requires fits { K.fits kind.now (hulls (cell_of cells.now)) }
-    ensures { IsFirstEnd (K.refuted kind.now) (cell_of cells.now) var result }
+    requires var { IsReadable (K.vars kind.now) (length cells.now.state.starts) var }
+    requires fits { K.fits kind.now (hulls (cell_of cells.now.state)) }
+    ensures { IsFirstEnd (K.refuted kind.now) (cell_of cells.now.state) var result }
 {
     first_end(&Whole(kind), cells, var)
 }
@@ -38,9 +39,9 @@ pub fn end_of_var<K: Kind>(kind: &K, cells: &Cells, var: VarId) -> Option<Litera
 /// The end of the variable's cell that is implied, the lower one first. A kind that can tell quickly whether a box with one
 /// bound more is refuted finds its ends by it.
 pub fn first_end<P: Probe>(probe: &P, cells: &Cells, var: VarId) -> Option<Literal>
-    requires var { IsReadable (P.vars probe.now) (length cells.now.starts) var }
-    requires answers { P.answers probe.now cells.now var }
-    ensures { IsFirstEnd (P.refuted probe.now) (cell_of cells.now) var result }
+    requires var { IsReadable (P.vars probe.now) (length cells.now.state.starts) var }
+    requires answers { P.answers probe.now cells.now.state var }
+    ensures { IsFirstEnd (P.refuted probe.now) (cell_of cells.now.state) var result }
 {
     if let Some(end) = end_of(probe, cells, var, Side::Low) {
         return Some(end);
@@ -50,9 +51,9 @@ pub fn first_end<P: Probe>(probe: &P, cells: &Cells, var: VarId) -> Option<Liter
 
 /// The end of the variable's cell that is implied on this side.
 fn end_of<P: Probe>(probe: &P, cells: &Cells, var: VarId, side: Side) -> Option<Literal>
-    requires var { IsReadable (P.vars probe.now) (length cells.now.starts) var }
-    requires answers { P.answers probe.now cells.now var }
-    ensures { IsSideEnd (P.refuted probe.now) (cell_of cells.now) var side result }
+    requires var { IsReadable (P.vars probe.now) (length cells.now.state.starts) var }
+    requires answers { P.answers probe.now cells.now.state var }
+    ensures { IsSideEnd (P.refuted probe.now) (cell_of cells.now.state) var side result }
 {
     let steps = deepest(probe, cells, var, side);
     if steps == 0 {
@@ -63,10 +64,10 @@ fn end_of<P: Probe>(probe: &P, cells: &Cells, var: VarId, side: Side) -> Option<
 
 /// The most steps from the end of the cell that a refuted box may have.
 fn deepest<P: Probe>(probe: &P, cells: &Cells, var: VarId, side: Side) -> u64
-    requires var { IsReadable (P.vars probe.now) (length cells.now.starts) var }
-    requires answers { P.answers probe.now cells.now var }
-    ensures sound { IsBox cells.now }
-    ensures deepest { IsDeepest (steps_refuted (P.refuted probe.now) (cell_of cells.now) var side) (size_of (cell_of cells.now var.0)) result }
+    requires var { IsReadable (P.vars probe.now) (length cells.now.state.starts) var }
+    requires answers { P.answers probe.now cells.now.state var }
+    ensures sound { IsBox cells.now.state }
+    ensures deepest { IsDeepest (steps_refuted (P.refuted probe.now) (cell_of cells.now.state) var side) (size_of (cell_of cells.now.state var.0)) result }
 {
     let size = distance(cells, var);
     if size == 0 {
@@ -89,23 +90,12 @@ fn deepest<P: Probe>(probe: &P, cells: &Cells, var: VarId, side: Side) -> u64
     known
 }
 
-/// How far the ends of the cell lie apart.
-fn distance(cells: &Cells, var: VarId) -> u64
-    requires { var.0 < length cells.now.starts }
-    ensures size { result ≡ size_of (cell_of cells.now var.0) }
-    ensures sound { IsBox cells.now }
-{
-    let lo = cells.lo(var);
-    let hi = cells.hi(var);
-    (hi as i128 - lo as i128) as u64
-}
-
 /// The bound that leaves so many steps from one end of the cell.
 fn trimmed(cells: &Cells, var: VarId, side: Side, steps: u64) -> Literal
-    requires var { var.0 < length cells.now.starts }
+    requires var { var.0 < length cells.now.state.starts }
     requires some { 0 < steps }
-    requires few { steps ≤ size_of (cell_of cells.now var.0) }
-    ensures { result ≡ trim side var (lo_of (cell_of cells.now var.0)) (hi_of (cell_of cells.now var.0)) steps }
+    requires few { steps ≤ size_of (cell_of cells.now.state var.0) }
+    ensures { result ≡ trim side var (lo_of (cell_of cells.now.state var.0)) (hi_of (cell_of cells.now.state var.0)) steps }
 {
     let lo = cells.lo(var);
     let hi = cells.hi(var);
@@ -125,9 +115,9 @@ fn trimmed(cells: &Cells, var: VarId, side: Side, steps: u64) -> Literal
 
 /// The end so many steps from the end of the cell.
 fn end_at(cells: &Cells, var: VarId, side: Side, steps: u64) -> Literal
-    requires var { var.0 < length cells.now.starts }
-    requires few { steps ≤ size_of (cell_of cells.now var.0) }
-    ensures { result ≡ end_literal side var (lo_of (cell_of cells.now var.0)) (hi_of (cell_of cells.now var.0)) steps }
+    requires var { var.0 < length cells.now.state.starts }
+    requires few { steps ≤ size_of (cell_of cells.now.state var.0) }
+    ensures { result ≡ end_literal side var (lo_of (cell_of cells.now.state var.0)) (hi_of (cell_of cells.now.state var.0)) steps }
 {
     let lo = cells.lo(var);
     let hi = cells.hi(var);

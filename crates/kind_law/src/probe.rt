@@ -7,7 +7,7 @@ use dom_core::Literal;
 /// What can tell whether a box with one bound more is refuted.
 pub trait Probe {
     ghost use Rattle.std.specs.Prelude.{◌≡◌, length, List, ℕ, Bool};
-    ghost use Rattle.dom_cells.specs.Box.{Trailed, cell_of, kept, IsBox};
+    ghost use Rattle.dom_cells.specs.Box.{Box, cell_of, kept, IsBox};
     ghost use Rattle.dom_cells.specs.declared.start.Start.{Start};
     ghost use Rattle.dom_core.specs.declared.var_id.VarId.{VarId};
     ghost use Rattle.kind_law.specs.Laws.{ShrinkLaw};
@@ -23,13 +23,13 @@ pub trait Probe {
     ghost refuted: { Self → (ℕ → Start) → Bool };
 
     /// What must be known before it is asked about bounds on this variable of these cells.
-    ghost answers: { Self → Trailed → VarId → Type 0 };
+    ghost answers: { Self → Box → VarId → Type 0 };
 
     fn is_refuted_within(&self, cells: &Cells, literal: Literal) -> bool
-        requires bound { IsBound (vars self.now) (length cells.now.starts) (cell_of cells.now) literal }
-        requires answers { answers self.now cells.now literal.var }
-        requires sound { IsBox cells.now }
-        ensures { result ≡ refuted self.now (kept (cell_of cells.now) literal) };
+        requires bound { IsBound (vars self.now) (length cells.now.state.starts) (cell_of cells.now.state) literal }
+        requires answers { answers self.now cells.now.state literal.var }
+        requires sound { IsBox cells.now.state }
+        ensures { result ≡ refuted self.now (kept (cell_of cells.now.state) literal) };
 
     /// A smaller box is refuted where a larger one is.
     ghost shrink_law: { (k : Self) → ShrinkLaw (inside k) (vars k) (refuted k) };

@@ -1,5 +1,5 @@
 //! Reasons for what a kind gave up or implied, by the ends and the holes of its variables' cells.
-ghost use Rattle.std.specs.Prelude.{◌≡◌, ◌<◌, length, OnOk, OnErr, [], ◌++◌};
+ghost use Rattle.std.specs.Prelude.{◌≡◌, ◌<◌, length, OnOk, [], ◌++◌};
 ghost use Rattle.std.specs.Option.{option_to_list};
 ghost use Rattle.dom_cells.specs.Box.{cell_of, start_at, IsBox};
 ghost use Rattle.kind_law.specs.Laws.{AllBelow, Each};
@@ -10,40 +10,20 @@ use dom_cells::{Cells, Start};
 use dom_core::{Clause, Domain, Literal, Rel, VarId};
 use std::alloc::AllocError;
 
-/// Writes the reason for the implied end, or, without one, for why the kind refutes the cells: for each of the kind's
-/// variables the ends that moved, and the values that are gone where single values count, and then the implied literal.
+/// Writes the reason for the implied end, or, without one, for why the kind refutes the cells, into an empty clause: for
+/// each of the kind's variables the ends that moved, and the values that are gone where single values count, and then the
+/// implied literal.
 pub fn reason_of<K: Kind>(
     kind: &K,
     cells: &Cells,
     implied: Option<Literal>,
     out: &mut Clause,
 ) -> Result<(), AllocError>
-    requires below { AllBelow (length cells.now.starts) (K.vars kind.now) }
-    requires cause { IsCause (K.refuted kind.now) (cell_of cells.now) implied }
-    requires var { IsRead (length cells.now.starts) implied }
-    ensures reason { OnOk result (IsReason (K.refuted kind.now) cells.now implied out.new) }
-    ensures none { OnErr result (out.new ≡ []) }
-{
-    out.clear();
-    let written = write_reason(kind, cells, implied, out);
-    if written.is_err() {
-        out.clear();
-    }
-    written
-}
-
-/// Writes the reason into an empty clause.
-fn write_reason<K: Kind>(
-    kind: &K,
-    cells: &Cells,
-    implied: Option<Literal>,
-    out: &mut Clause,
-) -> Result<(), AllocError>
-    requires below { AllBelow (length cells.now.starts) (K.vars kind.now) }
-    requires cause { IsCause (K.refuted kind.now) (cell_of cells.now) implied }
-    requires var { IsRead (length cells.now.starts) implied }
+    requires below { AllBelow (length cells.now.state.starts) (K.vars kind.now) }
+    requires cause { IsCause (K.refuted kind.now) (cell_of cells.now.state) implied }
+    requires var { IsRead (length cells.now.state.starts) implied }
     requires empty { out.old ≡ [] }
-    ensures { OnOk result (IsReason (K.refuted kind.now) cells.now implied out.new) }
+    ensures { OnOk result (IsReason (K.refuted kind.now) cells.now.state implied out.new) }
 {
     let _width = cells.width();
     explain_all(kind, cells, implied, out)?;
@@ -71,9 +51,9 @@ fn explain_all<K: Kind>(
     implied: Option<Literal>,
     out: &mut Clause,
 ) -> Result<(), AllocError>
-    requires below { AllBelow (length cells.now.starts) (K.vars kind.now) }
-    ensures fine { OnOk result (AddsFine cells.now out.old out.new) }
-    ensures covers { OnOk result (Each (λ u. CoversVar cells.now out.new (looks (K.inside kind.now) implied u.0) u.0) (K.vars kind.now)) }
+    requires below { AllBelow (length cells.now.state.starts) (K.vars kind.now) }
+    ensures fine { OnOk result (AddsFine cells.now.state out.old out.new) }
+    ensures covers { OnOk result (Each (λ u. CoversVar cells.now.state out.new (looks (K.inside kind.now) implied u.0) u.0) (K.vars kind.now)) }
 {
     for var in kind.vars() {
         let deep = is_deep(kind, implied, *var);
@@ -97,9 +77,9 @@ fn is_deep<K: Kind>(kind: &K, implied: Option<Literal>, var: VarId) -> bool
 
 /// Tells how the variable's cell differs from its start.
 fn explain(cells: &Cells, var: VarId, deep: bool, out: &mut Clause) -> Result<(), AllocError>
-    requires { var.0 < length cells.now.starts }
-    ensures fine { OnOk result (AddsFine cells.now out.old out.new) }
-    ensures covers { OnOk result (CoversVar cells.now out.new deep var.0) }
+    requires { var.0 < length cells.now.state.starts }
+    ensures fine { OnOk result (AddsFine cells.now.state out.old out.new) }
+    ensures covers { OnOk result (CoversVar cells.now.state out.new deep var.0) }
 {
     explain_low(cells, var, out)?;
     explain_high(cells, var, out)?;
@@ -112,9 +92,9 @@ fn explain(cells: &Cells, var: VarId, deep: bool, out: &mut Clause) -> Result<()
 
 /// Tells that the values below the least one left are gone.
 pub(crate) fn explain_low(cells: &Cells, var: VarId, out: &mut Clause) -> Result<(), AllocError>
-    requires { var.0 < length cells.now.starts }
-    ensures fine { OnOk result (AddsFine cells.now out.old out.new) }
-    ensures covers { OnOk result (CoversLow cells.now out.new var.0) }
+    requires { var.0 < length cells.now.state.starts }
+    ensures fine { OnOk result (AddsFine cells.now.state out.old out.new) }
+    ensures covers { OnOk result (CoversLow cells.now.state out.new var.0) }
 {
     let lo = cells.lo(var);
     let start = cells.start(var).lo();
@@ -131,9 +111,9 @@ pub(crate) fn explain_low(cells: &Cells, var: VarId, out: &mut Clause) -> Result
 
 /// Tells that the values above the greatest one left are gone.
 pub(crate) fn explain_high(cells: &Cells, var: VarId, out: &mut Clause) -> Result<(), AllocError>
-    requires { var.0 < length cells.now.starts }
-    ensures fine { OnOk result (AddsFine cells.now out.old out.new) }
-    ensures covers { OnOk result (CoversHigh cells.now out.new var.0) }
+    requires { var.0 < length cells.now.state.starts }
+    ensures fine { OnOk result (AddsFine cells.now.state out.old out.new) }
+    ensures covers { OnOk result (CoversHigh cells.now.state out.new var.0) }
 {
     let hi = cells.hi(var);
     let start = cells.start(var).hi();
@@ -150,9 +130,9 @@ pub(crate) fn explain_high(cells: &Cells, var: VarId, out: &mut Clause) -> Resul
 
 /// Tells which values between the ends are gone.
 fn explain_holes(cells: &Cells, var: VarId, out: &mut Clause) -> Result<(), AllocError>
-    requires { var.0 < length cells.now.starts }
-    ensures fine { OnOk result (AddsFine cells.now out.old out.new) }
-    ensures covers { OnOk result (CoversInside cells.now out.new var.0) }
+    requires { var.0 < length cells.now.state.starts }
+    ensures fine { OnOk result (AddsFine cells.now.state out.old out.new) }
+    ensures covers { OnOk result (CoversInside cells.now.state out.new var.0) }
 {
     match cells.start(var) {
         Start::Span { .. } => {
@@ -170,10 +150,10 @@ fn explain_values(
     domain: &Domain,
     out: &mut Clause,
 ) -> Result<(), AllocError>
-    requires var { var.0 < length cells.now.starts }
-    requires start { start_at cells.now.starts var.0 ≡ Start.Values domain.now }
-    ensures fine { OnOk result (AddsFine cells.now out.old out.new) }
-    ensures covers { OnOk result (CoversInside cells.now out.new var.0) }
+    requires var { var.0 < length cells.now.state.starts }
+    requires start { start_at cells.now.state.starts var.0 ≡ Start.Values domain.now }
+    ensures fine { OnOk result (AddsFine cells.now.state out.old out.new) }
+    ensures covers { OnOk result (CoversInside cells.now.state out.new var.0) }
 {
     for at in 0..domain.size() {
         let value = domain.value_at(at);
@@ -189,10 +169,10 @@ pub(crate) fn explain_value(
     value: i64,
     out: &mut Clause,
 ) -> Result<(), AllocError>
-    requires var { var.0 < length cells.now.starts }
-    requires start { IsListedAt (start_at cells.now.starts var.0) value }
-    ensures fine { OnOk result (AddsFine cells.now out.old out.new) }
-    ensures covers { OnOk result (CoversValue cells.now out.new var.0 value) }
+    requires var { var.0 < length cells.now.state.starts }
+    requires start { IsListedAt (start_at cells.now.state.starts var.0) value }
+    ensures fine { OnOk result (AddsFine cells.now.state out.old out.new) }
+    ensures covers { OnOk result (CoversValue cells.now.state out.new var.0 value) }
 {
     if value < cells.lo(var) {
         return Ok(());

@@ -1,5 +1,5 @@
 use Rattle.std.proofs.Common.{◌≡◌, drop}
-use Rattle.kind_law.specs.DefineLaws.{all_still}
+use Rattle.kind_law.specs.Laws.{all_still}
 use Rattle.kind_law.proofs.change.are_still.Given as goal
 
 abbrev pub invariant-loop-var : goal.invariant-loop-var

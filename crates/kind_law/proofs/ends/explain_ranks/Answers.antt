@@ -9,15 +9,15 @@ use Rattle.kind_law.proofs.ends.explain_ranks.Goals as goal
 pub explain_value-requires-clause-start : goal.explain_value-requires-clause-start
 explain_value-requires-clause-start c =
     let fits : FitsSigned w64 c.value_at-value.result = search rules in
-    rw (to_z-of_z w64 c.value_at-value.result fits) (listed_at (start_at c.args.cells.now.starts c.args.var.0) c.args.domain.now c.loop-at.at c.value_at-value.result c.requires.start c.value_at-value.ensures)
+    rw (to_z-of_z w64 c.value_at-value.result fits) (listed_at (start_at c.args.cells.now.state.starts c.args.var.0) c.args.domain.now c.loop-at.at c.value_at-value.result c.requires.start c.value_at-value.ensures)
 
 pub loop-at-preserved : goal.loop-at-preserved
 loop-at-preserved c =
     let fits : FitsSigned w64 c.value_at-value.result = search rules in
-    let here : CoversValue c.args.cells.now c.explain_value.new.out c.args.var.0 c.value_at-value.result = rw (to_z-of_z w64 c.value_at-value.result fits) at c.in_ok-explain_value.ensures.covers in
-    let more : AddsFine c.args.cells.now c.loop-at.out c.explain_value.new.out = c.in_ok-explain_value.ensures.fine in
+    let here : CoversValue c.args.cells.now.state c.explain_value.new.out c.args.var.0 c.value_at-value.result = rw (to_z-of_z w64 c.value_at-value.result fits) at c.in_ok-explain_value.ensures.covers in
+    let more : AddsFine c.args.cells.now.state c.loop-at.out c.explain_value.new.out = c.in_ok-explain_value.ensures.fine in
     record {
-      fine = adds-more c.args.cells.now c.args.out.now c.loop-at.out c.explain_value.new.out c.loop-at.invariant.fine more;
-      covers = ranks_more c.args.cells.now c.args.var.0 c.loop-at.out c.explain_value.new.out c.args.domain.now c.args.first c.loop-at.at c.value_at-value.result more c.value_at-value.ensures
+      fine = adds-more c.args.cells.now.state c.args.out.now c.loop-at.out c.explain_value.new.out c.loop-at.invariant.fine more;
+      covers = ranks_more c.args.cells.now.state c.args.var.0 c.loop-at.out c.explain_value.new.out c.args.domain.now c.args.first c.loop-at.at c.value_at-value.result more c.value_at-value.ensures
           c.loop-at.invariant.covers here;
     }

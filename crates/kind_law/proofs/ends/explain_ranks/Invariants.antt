@@ -3,6 +3,6 @@ use Rattle.kind_law.proofs.ends.explain_ranks.Given as goal
 
 abbrev pub invariant-loop-at : goal.invariant-loop-at
 invariant-loop-at l = record {
-  fine : AddsFine l.cells l.fn.out l.out;
-  covers : CoversRanks l.cells l.out l.var.0 l.domain l.first l.at;
+  fine : AddsFine l.cells.state l.fn.out l.out;
+  covers : CoversRanks l.cells.state l.out l.var.0 l.domain l.first l.at;
 }

@@ -10,20 +10,20 @@ use Rattle.kind_law.proofs.ends.failing.Goals as goal
 
 pub overflow_add-result : goal.overflow_add-result
 overflow_add-result c =
-    let bound : IsLowBound c.args.cells.now (Some c.args.literal) c.args.literal.var.0 (c.args.literal.value +ℤ pos 1) =
-    low_bound_is c.args.cells.now c.args.literal c.args.literal.var.0 refl c.in-Le.is (c.hi-hi.ensures.sound.cells c.args.literal.var.0 c.requires.var) c.requires.open in
-    let within : (c.args.literal.value +ℤ pos 1) ≤ℤ hi_of (cell_of c.args.cells.now c.args.literal.var.0) = bound.high in
-    let end_is : c.hi-hi.result ≡ hi_of (cell_of c.args.cells.now c.args.literal.var.0) = c.hi-hi.ensures.hi in
+    let bound : IsLowBound c.args.cells.now.state (Some c.args.literal) c.args.literal.var.0 (c.args.literal.value +ℤ pos 1) =
+    low_bound_is c.args.cells.now.state c.args.literal c.args.literal.var.0 refl c.in-Le.is (c.hi-hi.ensures.sound.cells c.args.literal.var.0 c.requires.var) c.requires.open in
+    let within : (c.args.literal.value +ℤ pos 1) ≤ℤ hi_of (cell_of c.args.cells.now.state c.args.literal.var.0) = bound.high in
+    let end_is : c.hi-hi.result ≡ hi_of (cell_of c.args.cells.now.state c.args.literal.var.0) = c.hi-hi.ensures.hi in
     let end_fits : FitsSigned w64 c.hi-hi.result = search rules in
     let value_fits : FitsSigned w64 c.args.literal.value = search rules in
     omega (arith, ints)
 
 pub returns-in-Le : goal.returns-in-Le
 returns-in-Le c =
-    let bound : IsLowBound c.args.cells.now (Some c.args.literal) c.args.literal.var.0 (c.args.literal.value +ℤ pos 1) =
-    low_bound_is c.args.cells.now c.args.literal c.args.literal.var.0 refl c.in-Le.is (c.hi-hi.ensures.sound.cells c.args.literal.var.0 c.requires.var) c.requires.open in
-    let within : (c.args.literal.value +ℤ pos 1) ≤ℤ hi_of (cell_of c.args.cells.now c.args.literal.var.0) = bound.high in
-    let end_is : c.hi-hi.result ≡ hi_of (cell_of c.args.cells.now c.args.literal.var.0) = c.hi-hi.ensures.hi in
+    let bound : IsLowBound c.args.cells.now.state (Some c.args.literal) c.args.literal.var.0 (c.args.literal.value +ℤ pos 1) =
+    low_bound_is c.args.cells.now.state c.args.literal c.args.literal.var.0 refl c.in-Le.is (c.hi-hi.ensures.sound.cells c.args.literal.var.0 c.requires.var) c.requires.open in
+    let within : (c.args.literal.value +ℤ pos 1) ≤ℤ hi_of (cell_of c.args.cells.now.state c.args.literal.var.0) = bound.high in
+    let end_is : c.hi-hi.result ≡ hi_of (cell_of c.args.cells.now.state c.args.literal.var.0) = c.hi-hi.ensures.hi in
     let end_fits : FitsSigned w64 c.hi-hi.result = search rules in
     let value_fits : FitsSigned w64 c.args.literal.value = search rules in
     let value : to_z w64 (of_z w64 (to_z w64 (of_z w64 c.args.literal.value) +ℤ pos 1)) ≡ (c.args.literal.value +ℤ pos 1) = omega (arith, ints) in
@@ -32,10 +32,10 @@ returns-in-Le c =
 pub overflow_sub-result : goal.overflow_sub-result
 overflow_sub-result c =
     let rel : c.args.literal.rel ≡ Ge = not_le c.args.literal.rel c.requires.open.end_is c.in_default.not-Le in
-    let bound : IsHighBound c.args.cells.now (Some c.args.literal) c.args.literal.var.0 (c.args.literal.value -ℤ pos 1) =
-    high_bound_is c.args.cells.now c.args.literal c.args.literal.var.0 refl rel (c.lo-lo.ensures.sound.cells c.args.literal.var.0 c.requires.var) c.requires.open in
-    let within : lo_of (cell_of c.args.cells.now c.args.literal.var.0) ≤ℤ (c.args.literal.value -ℤ pos 1) = bound.low in
-    let end_is : c.lo-lo.result ≡ lo_of (cell_of c.args.cells.now c.args.literal.var.0) = c.lo-lo.ensures.lo in
+    let bound : IsHighBound c.args.cells.now.state (Some c.args.literal) c.args.literal.var.0 (c.args.literal.value -ℤ pos 1) =
+    high_bound_is c.args.cells.now.state c.args.literal c.args.literal.var.0 refl rel (c.lo-lo.ensures.sound.cells c.args.literal.var.0 c.requires.var) c.requires.open in
+    let within : lo_of (cell_of c.args.cells.now.state c.args.literal.var.0) ≤ℤ (c.args.literal.value -ℤ pos 1) = bound.low in
+    let end_is : c.lo-lo.result ≡ lo_of (cell_of c.args.cells.now.state c.args.literal.var.0) = c.lo-lo.ensures.lo in
     let end_fits : FitsSigned w64 c.lo-lo.result = search rules in
     let value_fits : FitsSigned w64 c.args.literal.value = search rules in
     omega (arith, ints)
@@ -43,10 +43,10 @@ overflow_sub-result c =
 pub returns-in_default : goal.returns-in_default
 returns-in_default c =
     let rel : c.args.literal.rel ≡ Ge = not_le c.args.literal.rel c.requires.open.end_is c.in_default.not-Le in
-    let bound : IsHighBound c.args.cells.now (Some c.args.literal) c.args.literal.var.0 (c.args.literal.value -ℤ pos 1) =
-    high_bound_is c.args.cells.now c.args.literal c.args.literal.var.0 refl rel (c.lo-lo.ensures.sound.cells c.args.literal.var.0 c.requires.var) c.requires.open in
-    let within : lo_of (cell_of c.args.cells.now c.args.literal.var.0) ≤ℤ (c.args.literal.value -ℤ pos 1) = bound.low in
-    let end_is : c.lo-lo.result ≡ lo_of (cell_of c.args.cells.now c.args.literal.var.0) = c.lo-lo.ensures.lo in
+    let bound : IsHighBound c.args.cells.now.state (Some c.args.literal) c.args.literal.var.0 (c.args.literal.value -ℤ pos 1) =
+    high_bound_is c.args.cells.now.state c.args.literal c.args.literal.var.0 refl rel (c.lo-lo.ensures.sound.cells c.args.literal.var.0 c.requires.var) c.requires.open in
+    let within : lo_of (cell_of c.args.cells.now.state c.args.literal.var.0) ≤ℤ (c.args.literal.value -ℤ pos 1) = bound.low in
+    let end_is : c.lo-lo.result ≡ lo_of (cell_of c.args.cells.now.state c.args.literal.var.0) = c.lo-lo.ensures.lo in
     let end_fits : FitsSigned w64 c.lo-lo.result = search rules in
     let value_fits : FitsSigned w64 c.args.literal.value = search rules in
     let value : to_z w64 (of_z w64 (to_z w64 (of_z w64 c.args.literal.value) -ℤ pos 1)) ≡ (c.args.literal.value -ℤ pos 1) = omega (arith, ints) in

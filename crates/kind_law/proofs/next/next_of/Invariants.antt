@@ -6,4 +6,4 @@ use Rattle.kind_law.proofs.next.next_of.Given as goal
 
 abbrev pub invariant-loop-var : goal.invariant-loop-var
 invariant-loop-var g l =
-    Each (HasNoEnd (g.K.Kind.refuted l.fn.kind) (cell_of l.fn.cells)) (take l.var-index (g.K.Kind.vars l.fn.kind))
+    Each (HasNoEnd (g.K.Kind.refuted l.fn.kind) (cell_of l.fn.cells.state)) (take l.var-index (g.K.Kind.vars l.fn.kind))
