@@ -1,12 +1,7 @@
-pub mod ArguedLaws
-pub mod ExplainedLaws
-pub mod RunLaws
-pub mod SeenLaws
-pub mod VarLaws
-pub mod SolvedLaws
-pub mod SlackLaws
-pub mod ReplacedLaws
-pub mod TruthNextLaws
-pub mod ReachLaws
-pub mod EndLaws
-pub mod PairLaws
+mod ArguedLaws
+mod KeepLaws
+mod OpenLaws
+mod PairLaws
+mod ReplacedLaws
+mod SolvedLaws
+mod TruthNextLaws

@@ -2,12 +2,12 @@
 use Rattle.std.proofs.Common.{◌≡◌, ℕ, ◌+◌, ◌≤◌, ◌^◌, true, false, List, [], ◌∷◌, max, ℤ, pos, ◌*ℤ◌, int_lt, unsigned_abs, FitsSigned, w8, w64, if◌then◌else◌, subst, sym, ap, ◌∙◌, arith}
 use Rattle.std.proofs.Math.Nat.{mul-le-mul}
 use Rattle.std.proofs.lemmas.Int.{ints, unsigned_abs-mul}
-use Rattle.dom_core.specs.Ends.{Ends, scaled_ends}
+use Rattle.dom_core.specs.Ends.{Ends, scaled_ends, size_of}
 use Rattle.dom_core.specs.declared.arg.Arg.TheVariants.{Var}
-use Rattle.kind_linear.specs.Linear.{Form, FormFits}
+use Rattle.kind_sum.specs.SumRelation.{SumRelation, SumFits}
 use Rattle.kind_law.specs.Argument.{arg_ends}
-use Rattle.kind_linear.specs.Sum.{magnitude, size_of}
-use Rattle.kind_linear.specs.declared.term.Term.{Term}
+use Rattle.kind_sum.specs.Sum.{magnitude}
+use Rattle.kind_sum.specs.declared.term.Term.{Term}
 
 both_at_most : (a b n : ℕ) → a ≤ n → b ≤ n → max a b ≤ n
 both_at_most a b n h g = omega arith
@@ -33,8 +33,8 @@ pub record IsWide (e : Ends) : Type 0 where
 word_size : (x : ℤ) → FitsSigned w64 x → unsigned_abs x ≤ 2 ^ 63
 word_size x f = omega (arith, ints)
 
-pub pair_fits : (k : Form) (a b : ℤ) (s : ℕ → Ends) → k.terms ≡ record { coef = a; arg = Var (record { 0 = 0 }) } ∷ record { coef = b; arg = Var (record { 0 = 1 }) } ∷ []
-    → FitsSigned w8 a → FitsSigned w8 b → IsWide (s 0) → IsWide (s 1) → FormFits k s
+pub pair_fits : (k : SumRelation) (a b : ℤ) (s : ℕ → Ends) → k.terms ≡ record { coef = a; arg = Var (record { 0 = 0 }) } ∷ record { coef = b; arg = Var (record { 0 = 1 }) } ∷ []
+    → FitsSigned w8 a → FitsSigned w8 b → IsWide (s 0) → IsWide (s 1) → SumFits k s
 pair_fits k a b s e f g x y =
     let first : size_of (scaled_ends a (s 0)) ≤ 2 ^ 70 = scaled_size a (s 0) (byte_size a f) (word_size (s 0).lo x.low) (word_size (s 0).hi x.high) in
     let second : size_of (scaled_ends b (s 1)) ≤ 2 ^ 70 = scaled_size b (s 1) (byte_size b g) (word_size (s 1).lo y.low) (word_size (s 1).hi y.high) in

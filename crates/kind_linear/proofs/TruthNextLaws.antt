@@ -11,14 +11,15 @@ use Rattle.kind_law.specs.Laws.{Each, AllBelow}
 use Rattle.kind_law.specs.Next.{HasNoEnd, IsNext, IsReadable}
 use Rattle.kind_law.proofs.EachLaws.{each_at}
 use Rattle.kind_law.proofs.NextLaws.{next_found, not_some}
-use Rattle.kind_linear.specs.Linear.{form_vars}
-use Rattle.kind_linear.specs.Reified.{Truth, truth_vars, truth_refuted}
-use Rattle.kind_linear.specs.Slack.{IsArgEnd}
+use Rattle.kind_sum.specs.SumRelation.{sum_vars}
+use Rattle.kind_linear.specs.LinearReified.{LinearReified, reified_vars, reified_refuted}
+use Rattle.kind_parts.specs.Walk.{IsArgEnd}
 use Rattle.kind_law.specs.Argument.{ArgHas, is_listed, is_new, with_arg, with_new_arg}
-use Rattle.kind_linear.specs.Sum.{vars_of}
+use Rattle.kind_sum.specs.Sum.{vars_of}
 use Rattle.kind_linear.specs.TruthNext.{AreSingle, AreSpans, IsTruthSlack}
-use Rattle.kind_linear.specs.declared.term.Term.{Term}
-use Rattle.kind_linear.proofs.SlackLaws.{append_none, each_append, place_here, read_after, seen_apart, slack_here, taken_before, within_after}
+use Rattle.kind_sum.specs.declared.term.Term.{Term}
+use Rattle.kind_sum.proofs.SlackLaws.{place_here, read_after, slack_here, taken_before, within_after}
+use Rattle.kind_parts.proofs.VarsLaws.{append_none, each_append, seen_apart}
 
 -- ---- lists with more variables at their end
 
@@ -60,29 +61,29 @@ new_last : (vs : List VarId) (x : Arg) → is_new vs x ≡ true → with_new_arg
 new_last vs (Var u) h = ap (λ (b : Bool). if b then vs else vs ++ u ∷ []) (not_true (is_listed u vs) h)
 new_last vs (Const c) h = sym (append_none vs)
 
-vars_are : (k : Truth) → AreSingle k → truth_vars k ≡ form_vars k.form ++ with_arg k.output []
-vars_are k s = new_last (form_vars k.form) k.output s.output
+pub vars_are : (k : LinearReified) → AreSingle k → reified_vars k ≡ sum_vars k.sum ++ with_arg k.output []
+vars_are k s = new_last (sum_vars k.sum) k.output s.output
 
-pub term_end_first : (k : Truth) (b : ℕ → Start) (r : Option Literal) → AreSingle k → is_some r ≡ true → IsNext (truth_refuted k) (form_vars k.form) b r
-    → IsNext (truth_refuted k) (truth_vars k) b r
+pub term_end_first : (k : LinearReified) (b : ℕ → Start) (r : Option Literal) → AreSingle k → is_some r ≡ true → IsNext (reified_refuted k) (sum_vars k.sum) b r
+    → IsNext (reified_refuted k) (reified_vars k) b r
 term_end_first k b r s some h =
-    subst (λ (vs : List VarId). IsNext (truth_refuted k) vs b r) (sym (vars_are k s)) (next_before (truth_refuted k) (form_vars k.form) (with_arg k.output []) b r some h)
+    subst (λ (vs : List VarId). IsNext (reified_refuted k) vs b r) (sym (vars_are k s)) (next_before (reified_refuted k) (sum_vars k.sum) (with_arg k.output []) b r some h)
 
-pub output_end_last : (k : Truth) (b : ℕ → Start) (r end : Option Literal) → AreSingle k → is_some r ≡ false → IsNext (truth_refuted k) (form_vars k.form) b r
-    → IsArgEnd (truth_refuted k) b k.output end → IsNext (truth_refuted k) (truth_vars k) b end
+pub output_end_last : (k : LinearReified) (b : ℕ → Start) (r end : Option Literal) → AreSingle k → is_some r ≡ false → IsNext (reified_refuted k) (sum_vars k.sum) b r
+    → IsArgEnd (reified_refuted k) b k.output end → IsNext (reified_refuted k) (reified_vars k) b end
 output_end_last k b r end s none h is =
-    subst (λ (vs : List VarId). IsNext (truth_refuted k) vs b end) (sym (vars_are k s))
-    (next_after (truth_refuted k) (form_vars k.form) k.output b end (subst (IsNext (truth_refuted k) (form_vars k.form) b) (not_some r none) h) is)
+    subst (λ (vs : List VarId). IsNext (reified_refuted k) vs b end) (sym (vars_are k s))
+    (next_after (reified_refuted k) (sum_vars k.sum) k.output b end (subst (IsNext (reified_refuted k) (sum_vars k.sum) b) (not_some r none) h) is)
 
 -- ---- a term's variable
 
-pub term_read : (k : Truth) (n i : ℕ) (d : Term) (u : VarId) → AreSingle k → i < length k.form.terms → (get_or k.form.terms i d).arg ≡ Var u
-    → AllBelow n (truth_vars k) → IsReadable (truth_vars k) n u
+pub term_read : (k : LinearReified) (n i : ℕ) (d : Term) (u : VarId) → AreSingle k → i < length k.sum.terms → (get_or k.sum.terms i d).arg ≡ Var u
+    → AllBelow n (reified_vars k) → IsReadable (reified_vars k) n u
 term_read k n i d u s lt e h = record {
   below = h;
-  place = length (vars_of (take i k.form.terms));
-  reads = ap (λ (vs : List VarId). slice_get vs (length (vars_of (take i k.form.terms)))) (vars_are k s)
-      ∙ read_before (form_vars k.form) (with_arg k.output []) (length (vars_of (take i k.form.terms))) u (place_here k.form i d u lt e s.sum);
+  place = length (vars_of (take i k.sum.terms));
+  reads = ap (λ (vs : List VarId). slice_get vs (length (vars_of (take i k.sum.terms)))) (vars_are k s)
+      ∙ read_before (sum_vars k.sum) (with_arg k.output []) (length (vars_of (take i k.sum.terms))) u (place_here k.sum i d u lt e s.sum);
 }
 
 new_other : (vs : List VarId) (x : Arg) (i : ℕ) (u : VarId) → is_new vs x ≡ true → slice_get vs i ≡ Some u → ArgHas (λ w. w.0 ≡ u.0 → ⊥) x
@@ -90,10 +91,10 @@ new_other vs (Var w) i u h at = λ same. each_at (λ v. v.0 ≡ w.0 → ⊥) vs 
 new_other vs (Const c) i u h at = tt
 
 -- one of the sum's terms is the only one with its variable, which isn't the output
-pub truth_slack_here : (k : Truth) (i : ℕ) (d : Term) (u : VarId) (known span : Ends) (b : ℕ → Start) → AreSingle k → i < length k.form.terms
-    → (get_or k.form.terms i d).arg ≡ Var u → AreSpans k known span b → IsTruthSlack k (get_or k.form.terms i d).coef known span b u
+pub truth_slack_here : (k : LinearReified) (i : ℕ) (d : Term) (u : VarId) (known span : Ends) (b : ℕ → Start) → AreSingle k → i < length k.sum.terms
+    → (get_or k.sum.terms i d).arg ≡ Var u → AreSpans k known span b → IsTruthSlack k (get_or k.sum.terms i d).coef known span b u
 truth_slack_here k i d u known span b s lt e spans = record {
-  slack = slack_here k.form i d u known b lt e s.sum spans.sum spans.fits;
+  slack = slack_here k.sum i d u known b lt e s.sum spans.sum spans.fits;
   output = spans.output;
-  other = new_other (form_vars k.form) k.output (length (vars_of (take i k.form.terms))) u s.output (place_here k.form i d u lt e s.sum);
+  other = new_other (sum_vars k.sum) k.output (length (vars_of (take i k.sum.terms))) u s.output (place_here k.sum i d u lt e s.sum);
 }

@@ -5,20 +5,21 @@ ghost use Rattle.dom_cells.specs.Box.{cell_of};
 ghost use Rattle.dom_cells.specs.Cell.{IsSane};
 ghost use Rattle.kind_law.specs.Laws.{AllBelow, hulls};
 ghost use Rattle.kind_law.specs.Reason.{AddsFine, IsCause, IsOpen, IsOpenEnd, IsRead, IsReason, asked};
-ghost use Rattle.kind_linear.specs.Explained.{ArgCovers, IsCertainExcess, IsVerdict};
-ghost use Rattle.kind_linear.specs.Linear.{FormFits, form_vars};
-ghost use Rattle.kind_linear.specs.Output.{HasBits, is_difference, is_equality};
-ghost use Rattle.kind_linear.specs.Reified.{Truth, truth_refuted, truth_vars};
-ghost use Rattle.kind_linear.specs.Relation.{certain_by};
+ghost use Rattle.kind_sum.specs.Explained.{IsCertainExcess};
+ghost use Rattle.kind_linear.specs.Verdict.{ArgCovers, IsVerdict};
+ghost use Rattle.kind_sum.specs.SumRelation.{SumFits, sum_vars};
+ghost use Rattle.dom_core.specs.Ends.{HasBits};
+ghost use Rattle.kind_parts.specs.Relation.{is_difference, is_equality};
+ghost use Rattle.kind_linear.specs.LinearReified.{LinearReified, reified_refuted, reified_vars};
+ghost use Rattle.kind_parts.specs.Relation.{certain_by};
 ghost use Rattle.kind_law.specs.Argument.{ArgHas, arg_ends};
-ghost use Rattle.kind_linear.specs.Sum.{total};
+ghost use Rattle.kind_sum.specs.Sum.{total};
 
-use crate::explained::{Excess, asked_total, beyond, excess_of, explain_sum};
-use crate::linear::Linear;
-use crate::relation::{Relation, is_certain, is_difference, is_equality, is_refuted};
-use dom_cells::{Cells, Hulls, Kept, Region};
-use dom_core::{Arg, Clause, Interval, Literal};
-use kind_law::{Reading, Side, add_implied, explain_end, failing, span};
+use dom_cells::{Cells, Hulls, Region};
+use dom_core::{Arg, Clause, Interval, Literal, Relation};
+use kind_law::{Asked, Reading, Side, add_implied, explain_end, span};
+use kind_parts::{is_certain, is_difference, is_equality, is_refuted};
+use kind_sum::{Excess, SumRelation, asked_total, beyond, excess_of, explain_sum};
 use std::alloc::AllocError;
 
 /// Why the truths and the output have nothing in common: the output's end on this side, and the sum's side.
@@ -30,17 +31,17 @@ pub(crate) struct Verdict {
 
 /// Why the truths over the refuted box and the output have nothing in common, where one end of the sum tells it.
 pub(crate) fn verdict_of(
-    linear: &Linear,
+    linear: &SumRelation,
     output: Arg,
     cells: &Cells,
     implied: Option<Literal>,
 ) -> Option<Verdict>
-    requires below { AllBelow (length cells.now.starts) (form_vars linear.now) }
-    requires output { ArgHas (λ u. u.0 < length cells.now.starts) output }
-    requires fits { FormFits linear.now (hulls (cell_of cells.now)) }
-    requires open { IsOpen (cell_of cells.now) implied }
-    requires var { IsRead (length cells.now.starts) implied }
-    ensures { MatchOption result (Unit {0}) (IsVerdict linear.now (total linear.now.terms (arg_ends (hulls (asked cells.now implied)))) (arg_ends (hulls (asked cells.now implied)) output)) }
+    requires below { AllBelow (length cells.now.state.starts) (sum_vars linear.now) }
+    requires output { ArgHas (λ u. u.0 < length cells.now.state.starts) output }
+    requires fits { SumFits linear.now (hulls (cell_of cells.now.state)) }
+    requires open { IsOpen (cell_of cells.now.state) implied }
+    requires var { IsRead (length cells.now.state.starts) implied }
+    ensures { MatchOption result (Unit {0}) (IsVerdict linear.now (total linear.now.terms (arg_ends (hulls (asked cells.now.state implied)))) (arg_ends (hulls (asked cells.now.state implied)) output)) }
 {
     let total = asked_total(linear, cells, implied);
     let output = asked_span(output, cells, implied);
@@ -54,7 +55,7 @@ pub(crate) fn verdict_of(
 }
 
 /// Why the relation is refuted, so that an output of 1 fails.
-fn refuted_verdict(linear: &Linear, total: Interval, output: Interval) -> Option<Verdict>
+fn refuted_verdict(linear: &SumRelation, total: Interval, output: Interval) -> Option<Verdict>
     requires bits { HasBits 101 total }
     requires output { pos 1 ≤ℤ output.lo }
     ensures { MatchOption result (Unit {0}) (IsVerdict linear.now total output) }
@@ -70,7 +71,7 @@ fn refuted_verdict(linear: &Linear, total: Interval, output: Interval) -> Option
 }
 
 /// Why the relation is certain, so that an output of 0 fails.
-fn certain_verdict(linear: &Linear, total: Interval, output: Interval) -> Option<Verdict>
+fn certain_verdict(linear: &SumRelation, total: Interval, output: Interval) -> Option<Verdict>
     requires bits { HasBits 101 total }
     requires output { output.hi ≤ℤ pos 0 }
     ensures { MatchOption result (Unit {0}) (IsVerdict linear.now total output) }
@@ -133,34 +134,14 @@ fn apart_excess(total: Interval, bound: i128) -> Excess
 
 /// The interval of an argument over the box that is refuted.
 fn asked_span(arg: Arg, cells: &Cells, implied: Option<Literal>) -> Interval
-    requires below { ArgHas (λ u. u.0 < length cells.now.starts) arg }
-    requires open { IsOpen (cell_of cells.now) implied }
-    requires var { IsRead (length cells.now.starts) implied }
-    ensures { result ≡ arg_ends (hulls (asked cells.now implied)) arg }
-{
-    match implied {
-        None => {
-            let _width = cells.width();
-            span_in(arg, cells)
-        }
-        Some(literal) => failing_span(arg, cells, literal),
-    }
-}
-
-/// The interval of an argument over the part of the box in which the literal fails.
-fn failing_span(arg: Arg, cells: &Cells, literal: Literal) -> Interval
-    requires below { ArgHas (λ u. u.0 < length cells.now.starts) arg }
-    requires open { IsOpenEnd (cell_of cells.now) literal }
-    requires var { literal.var.0 < length cells.now.starts }
-    ensures { result ≡ arg_ends (hulls (asked cells.now (Some literal))) arg }
+    requires below { ArgHas (λ u. u.0 < length cells.now.state.starts) arg }
+    requires open { IsOpen (cell_of cells.now.state) implied }
+    requires var { IsRead (length cells.now.state.starts) implied }
+    ensures { result ≡ arg_ends (hulls (asked cells.now.state implied)) arg }
 {
     let _width = cells.width();
-    let failing = failing(cells, literal);
-    let kept = Kept {
-        cells,
-        literal: failing,
-    };
-    span_in(arg, &kept)
+    let region = Asked::new(cells, implied);
+    span_in(arg, &region)
 }
 
 /// The interval of an argument over a box.
@@ -174,20 +155,20 @@ fn span_in<R: Region>(arg: Arg, region: &R) -> Interval
 
 /// Writes the reason of a truth into an empty clause.
 pub(crate) fn write_truth_reason(
-    linear: &Linear,
+    linear: &SumRelation,
     output: Arg,
     cells: &Cells,
     implied: Option<Literal>,
     verdict: Verdict,
     out: &mut Clause,
 ) -> Result<(), AllocError>
-    requires below { AllBelow (length cells.now.starts) (form_vars linear.now) }
-    requires output { ArgHas (λ u. u.0 < length cells.now.starts) output }
-    requires cause { IsCause (truth_refuted (record { form = linear.now; output = output })) (cell_of cells.now) implied }
-    requires var { IsRead (length cells.now.starts) implied }
-    requires verdict { IsVerdict linear.now (total linear.now.terms (arg_ends (hulls (asked cells.now implied)))) (arg_ends (hulls (asked cells.now implied)) output) verdict }
+    requires below { AllBelow (length cells.now.state.starts) (sum_vars linear.now) }
+    requires output { ArgHas (λ u. u.0 < length cells.now.state.starts) output }
+    requires cause { IsCause (reified_refuted (record { sum = linear.now; output = output })) (cell_of cells.now.state) implied }
+    requires var { IsRead (length cells.now.state.starts) implied }
+    requires verdict { IsVerdict linear.now (total linear.now.terms (arg_ends (hulls (asked cells.now.state implied)))) (arg_ends (hulls (asked cells.now.state implied)) output) verdict }
     requires empty { out.old ≡ [] }
-    ensures { OnOk result (IsReason (truth_refuted (record { form = linear.now; output = output })) cells.now implied out.new) }
+    ensures { OnOk result (IsReason (reified_refuted (record { sum = linear.now; output = output })) cells.now.state implied out.new) }
 {
     let _width = cells.width();
     explain_arg(output, cells, implied, verdict.side, out)?;
@@ -204,10 +185,10 @@ fn explain_arg(
     side: Side,
     out: &mut Clause,
 ) -> Result<(), AllocError>
-    requires below { ArgHas (λ u. u.0 < length cells.now.starts) arg }
-    requires open { IsOpen (cell_of cells.now) implied }
-    ensures fine { OnOk result (AddsFine cells.now out.old out.new) }
-    ensures covers { OnOk result (ArgCovers side cells.now implied out.new arg) }
+    requires below { ArgHas (λ u. u.0 < length cells.now.state.starts) arg }
+    requires open { IsOpen (cell_of cells.now.state) implied }
+    ensures fine { OnOk result (AddsFine cells.now.state out.old out.new) }
+    ensures covers { OnOk result (ArgCovers side cells.now.state implied out.new arg) }
 {
     match arg {
         Arg::Const(_) => Ok(()),

@@ -1,11 +1,11 @@
 ghost use Rattle.std.specs.Prelude.{length};
 ghost use Rattle.dom_cells.specs.Box.{cell_of};
 ghost use Rattle.kind_law.specs.Laws.{AllBelow, hulls};
-ghost use Rattle.kind_linear.specs.Linear.{form_vars, FormFits};
+ghost use Rattle.kind_sum.specs.SumRelation.{sum_vars, SumFits};
 
 use super::*;
 use dom_cells::{Cells, Start};
-use dom_core::{Arg, Domain, Literal, Rel, VarId};
+use dom_core::{Arg, Domain, Literal, Rel, Relation, VarId};
 use kind_law::{Kind, Propagate};
 use std::test::Fail;
 
@@ -35,8 +35,8 @@ fn implied(
 
 /// The end that is implied over cells that aren't given up.
 fn next_of_open(kind: &Linear, cells: &Cells) -> Result<Option<Literal>, Fail>
-    requires below { AllBelow (length cells.now.starts) (form_vars kind.now) }
-    requires fits { FormFits kind.now (hulls (cell_of cells.now)) }
+    requires below { AllBelow (length cells.now.state.starts) (sum_vars kind.now) }
+    requires fits { SumFits kind.now (hulls (cell_of cells.now.state)) }
 {
     if kind.refutes(cells) {
         return Err("a box with solutions was given up".into());

@@ -1,17 +1,14 @@
 //! Linear equations that give one of their variables its value.
 ghost use Rattle.std.specs.Prelude.{◌≡◌, IfOk, true, pos, int_lt};
-ghost use Rattle.dom_core.specs.Ends.{only, difference_ends};
-ghost use Rattle.kind_linear.specs.Output.{can_define, IsSolved, turned_ends, HasBits};
+ghost use Rattle.dom_core.specs.Ends.{HasBits, only, difference_ends};
+ghost use Rattle.kind_linear.specs.LinearOutput.{IsSolved, turned_ends};
+ghost use Rattle.kind_sum.specs.Place.{can_define};
 
 use crate::linear::Linear;
-use crate::term::Term;
-use crate::total::total_of;
-use crate::vars::{distinct_vars, terms_but};
 use dom_cells::{Cells, Point, Region};
-use dom_core::{
-    After, Assignment, Before, Changes, Clause, Interval, Intervals, Literal, VarId, View,
-};
-use kind_law::{Define, Kind, Propagate, Reading, are_still, change_by, var_of};
+use dom_core::{Assignment, Changes, Clause, Interval, Intervals, Literal, VarId, View};
+use kind_law::{Define, Kind, Propagate, Reading, Scratch, Visited, var_of};
+use kind_sum::{Term, is_wide, term_vars, terms_but, total_of};
 use std::alloc::{AllocError, Global};
 use std::marker::Model;
 
@@ -28,13 +25,13 @@ pub struct LinearOutput {
 
 impl Model for LinearOutput {
     ghost use Rattle.std.specs.Prelude.{◌+◌, take, drop};
-    ghost use Rattle.kind_linear.specs.Output.{Equation, IsEquation};
+    ghost use Rattle.kind_linear.specs.LinearOutput.{LinearOutput, IsSolvedParts};
 
-    ghost Value = { Equation };
+    ghost Value = { LinearOutput };
 
     ghost view = { λ k. record { front = take k.place k.linear.terms; turned = k.turned; output = k.output; back = drop (k.place + 1) k.linear.terms; bound = k.linear.bound } };
 
-    ghost invariant = { λ k. IsEquation k.linear k.others.items k.inputs.items (record { front = take k.place k.linear.terms; turned = k.turned; output = k.output; back = drop (k.place + 1) k.linear.terms; bound = k.linear.bound }) };
+    ghost invariant = { λ k. IsSolvedParts k.linear k.others.items k.inputs.items (record { front = take k.place k.linear.terms; turned = k.turned; output = k.output; back = drop (k.place + 1) k.linear.terms; bound = k.linear.bound }) };
 }
 
 impl LinearOutput {
@@ -45,7 +42,8 @@ impl LinearOutput {
     {
         let own = linear.terms()[place];
         let others = terms_but(alloc, linear.terms(), place)?;
-        let inputs = distinct_vars(alloc, others.as_slice())?;
+        let vars = term_vars(alloc, others.as_slice())?;
+        let inputs = vars.into_vars();
         Ok(LinearOutput {
             linear,
             place,
@@ -61,8 +59,9 @@ impl LinearOutput {
     ghost use Rattle.std.specs.Prelude.{◌≡◌, ◌<◌, ◌≤◌, ◌^◌};
     ghost use Rattle.kind_law.specs.Laws.{Each};
     ghost use Rattle.kind_law.specs.Argument.{arg_span};
-    ghost use Rattle.kind_linear.specs.Sum.{total, magnitude};
-    ghost use Rattle.kind_linear.specs.Output.{rest_of, inputs_of, InputsFit, output_range, HasBits};
+    ghost use Rattle.kind_sum.specs.Sum.{total, magnitude};
+    ghost use Rattle.dom_core.specs.Ends.{HasBits};
+    ghost use Rattle.kind_linear.specs.LinearOutput.{rest_of, inputs_of, InputsFit, output_range};
 
     /// The sum of the other terms.
     fn rest_total<I: Intervals>(&self, reading: Reading, intervals: &I) -> Interval
@@ -89,22 +88,27 @@ impl LinearOutput {
 }
 
 impl Kind for LinearOutput {
-    ghost use Rattle.kind_linear.specs.Linear.{form_vars, form_met, form_kept, form_refuted};
-    ghost use Rattle.kind_linear.specs.Output.{form_of, OutputFits};
-    ghost use Rattle.kind_linear.specs.OutputLaws.{output-fits, output-shrink, output-fixed, output-keep};
+    ghost use Rattle.kind_linear.specs.LinearOutputLaws.{output-still};
+    ghost use Rattle.kind_sum.specs.SumRelation.{sum_vars, sum_met, sum_kept, sum_refuted};
+    ghost use Rattle.kind_linear.specs.LinearOutput.{relation_of, inputs_of, output_size, OutputFits};
+    ghost use Rattle.kind_linear.specs.LinearOutputLaws.{output-fits, output-width, output-measured, output-shrink, output-fixed, output-keep};
     ghost use Rattle.std.specs.Prelude.{false};
 
-    ghost vars = { λ k. form_vars (form_of k) };
+    ghost vars = { λ k. sum_vars (relation_of k) };
 
     ghost inside = { λ k v. false };
 
+    ghost measured = { inputs_of };
+
+    ghost size = { output_size };
+
     ghost fits = { OutputFits };
 
-    ghost met = { λ k. form_met (form_of k) };
+    ghost met = { λ k. sum_met (relation_of k) };
 
-    ghost kept = { λ k. form_kept (form_of k) };
+    ghost kept = { λ k. sum_kept (relation_of k) };
 
-    ghost refuted = { λ k. form_refuted (form_of k) };
+    ghost refuted = { λ k. sum_refuted (relation_of k) };
 
     fn vars(&self) -> &[VarId] {
         self.linear.vars()
@@ -112,6 +116,10 @@ impl Kind for LinearOutput {
 
     fn is_inside(&self, _var: VarId) -> bool {
         false
+    }
+
+    fn is_too_wide<I: Intervals>(&self, intervals: &I) -> bool {
+        is_wide(self.others.as_slice(), intervals)
     }
 
     fn holds(&self, a: &Assignment) -> bool {
@@ -128,33 +136,49 @@ impl Kind for LinearOutput {
 
     ghost fits_law = { output-fits };
 
+    ghost width_law = { output-width };
+
+    ghost measured_law = { output-measured };
+
     ghost shrink_law = { output-shrink };
 
     ghost fixed_law = { output-fixed };
 
     ghost keep_law = { output-keep };
+
+    ghost still_law = { output-still };
 }
 
 impl Propagate for LinearOutput {
+    fn visit(
+        &self,
+        cells: &Cells,
+        scratch: &mut Scratch,
+        ends: &mut Clause,
+    ) -> Result<Visited, AllocError> {
+        self.linear.visit(cells, scratch, ends)
+    }
+
     fn next(&self, cells: &Cells) -> Option<Literal> {
         self.linear.next(cells)
     }
 
-    fn reason(
+    fn write_reason(
         &self,
         cells: &Cells,
         implied: Option<Literal>,
         out: &mut Clause,
     ) -> Result<(), AllocError> {
-        self.linear.reason(cells, implied, out)
+        self.linear.write_reason(cells, implied, out)
     }
 }
 
 impl Define for LinearOutput {
-    ghost use Rattle.kind_linear.specs.Output.{inputs_of, IsFunctional, InputsFit, output_given, output_range, output_changed};
-    ghost use Rattle.kind_linear.specs.OutputLaws.{output-value, output-input, output-range, output-monotone, output-change, output-fixes};
+    ghost use Rattle.std.specs.Prelude.{true};
+    ghost use Rattle.kind_linear.specs.LinearOutput.{inputs_of, is_functional, InputsFit, output_given, output_range, output_own_change};
+    ghost use Rattle.kind_linear.specs.LinearOutputLaws.{output-inputs, output-pass, output-input_width, output-measured_inputs, output-apart, output-parts, output-value, output-input, output-range, output-monotone, output-own_change, output-fixes};
 
-    ghost functional = { IsFunctional };
+    ghost functional = { is_functional };
 
     ghost output = { λ k. k.output };
 
@@ -162,14 +186,29 @@ impl Define for LinearOutput {
 
     ghost fits_inputs = { InputsFit };
 
+    ghost defined = { λ k s. true };
+
     ghost given = { output_given };
 
     ghost ranged = { output_range };
 
-    ghost changed = { output_changed };
+    ghost own_change = { output_own_change };
+
+    fn is_functional(&self) -> bool {
+        let _place = self.place;
+        true
+    }
 
     fn output(&self) -> VarId {
         self.output
+    }
+
+    fn inputs(&self) -> &[VarId] {
+        self.inputs.as_slice()
+    }
+
+    fn is_defined_over<I: Intervals>(&self, _intervals: &I) -> bool {
+        true
     }
 
     fn value(&self, a: &Assignment) -> i64 {
@@ -181,15 +220,22 @@ impl Define for LinearOutput {
         self.solve(intervals)
     }
 
-    fn change(&self, view: &View) -> Interval {
-        let still = are_still(self.inputs.as_slice(), view);
+    fn own_change(&self, view: &View, _before: Interval, _after: Interval) -> Interval {
         let sum = self.rest_total(Reading::Changes, &Changes(view));
-        let before = self.solve(&Before(view));
-        let after = self.solve(&After(view));
-        change_by(still, turn(!self.turned, sum), before, after)
+        turn(!self.turned, sum)
     }
 
-    ghost apart_law = { λ k f. f };
+    ghost inputs_law = { output-inputs };
+
+    ghost pass_law = { output-pass };
+
+    ghost input_width_law = { output-input_width };
+
+    ghost measured_inputs_law = { output-measured_inputs };
+
+    ghost apart_law = { output-apart };
+
+    ghost parts_law = { output-parts };
 
     ghost value_law = { output-value };
 
@@ -199,7 +245,7 @@ impl Define for LinearOutput {
 
     ghost monotone_law = { output-monotone };
 
-    ghost change_law = { output-change };
+    ghost own_change_law = { output-own_change };
 
     ghost fixes_law = { output-fixes };
 }

@@ -4,7 +4,7 @@ ghost use Rattle.kind_law.specs.Laws.{AllBelow, hulls};
 
 use super::*;
 use dom_cells::{Cells, Narrowed, Start};
-use dom_core::{Arg, Clause, Domain, Literal, Rel, VarId};
+use dom_core::{Arg, Clause, Domain, Literal, Rel, Relation, VarId};
 use kind_law::{Kind, Propagate};
 use std::test::Fail;
 
@@ -26,8 +26,8 @@ fn at_most(var: VarId, value: i64) -> Literal {
 
 /// Cuts the variable's cell at both ends.
 fn put_between(cells: &mut Cells, var: VarId, lo: i64, hi: i64) -> Result<(), Fail>
-    requires { var.0 < length cells.old.starts }
-    ensures { OnOk result (cells.new.starts ≡ cells.old.starts) }
+    requires { var.0 < length cells.old.state.starts }
+    ensures { OnOk result (cells.new.state.starts ≡ cells.old.state.starts) }
 {
     let low = Literal {
         var,
@@ -52,8 +52,8 @@ fn put_between(cells: &mut Cells, var: VarId, lo: i64, hi: i64) -> Result<(), Fa
 
 /// Why the kind is refuted, or why the end is implied that it implies first.
 fn why<K: Propagate>(kind: &K, cells: &Cells, out: &mut Clause) -> Result<(), Fail>
-    requires below { AllBelow (length cells.now.starts) (K.vars kind.now) }
-    requires fits { K.fits kind.now (hulls (cell_of cells.now)) }
+    requires below { AllBelow (length cells.now.state.starts) (K.vars kind.now) }
+    requires fits { K.fits kind.now (hulls (cell_of cells.now.state)) }
 {
     let _width = cells.width();
     if kind.refutes(cells) {
@@ -78,7 +78,7 @@ fn told_over(
     bound: i64,
     cells: &Cells,
 ) -> Result<Clause, Fail>
-    requires { 2 ≤ length cells.now.starts }
+    requires { 2 ≤ length cells.now.state.starts }
 {
     let _ends = (cells.lo(X), cells.hi(X), cells.lo(Y), cells.hi(Y));
     let coefs = [a as i64, b as i64];
@@ -115,7 +115,7 @@ fn truth_told_over(
     bound: i64,
     cells: &Cells,
 ) -> Result<Clause, Fail>
-    requires { 3 ≤ length cells.now.starts }
+    requires { 3 ≤ length cells.now.state.starts }
 {
     let _ends = (cells.lo(X), cells.hi(X), cells.lo(Y), cells.hi(Y));
     let coefs = [one as i64, other as i64];

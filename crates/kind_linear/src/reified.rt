@@ -1,48 +1,48 @@
 //! Linear relations whose truth is the value of an argument.
 ghost use Rattle.std.specs.Prelude.{◌≡◌, ◌<◌, IfOk, length, pos, true};
-ghost use Rattle.dom_core.specs.Ends.{only, difference_ends};
-ghost use Rattle.kind_linear.specs.Output.{HasBits};
-ghost use Rattle.kind_law.specs.Argument.{arg_movement};
-ghost use Rattle.kind_linear.specs.Reified.{number_of, bound_row, truth_row};
+ghost use Rattle.dom_core.specs.Ends.{only};
+ghost use Rattle.dom_core.specs.Ends.{HasBits};
+ghost use Rattle.kind_law.specs.Argument.{arg_movement, is_variable};
+ghost use Rattle.kind_parts.specs.Relation.{number_of};
 ghost use Rattle.kind_law.specs.Argument.{ArgHas};
-ghost use Rattle.kind_linear.specs.Sum.{terms_of};
+ghost use Rattle.kind_sum.specs.Sum.{terms_of};
 ghost use Rattle.kind_linear.specs.TruthNext.{AreSingle};
 
-use crate::argued::{Verdict, verdict_of, write_truth_reason};
-use crate::linear::Linear;
-use crate::relation::Relation;
-use crate::truth_next::next_of_terms;
-use crate::vars::{is_new, with_output};
+use crate::argued::{verdict_of, write_truth_reason};
+use crate::truth_next::{TruthSpans, next_of_terms};
 use dom_cells::{Cells, Hulls, Point, Region};
 use dom_core::{
-    After, Arg, Assignment, Before, Changes, Clause, Interval, Intervals, Literal, Movement, VarId,
-    View,
+    After, Arg, Assignment, Before, Changes, Clause, Interval, Intervals, Literal, Movement,
+    Relation, VarId, View,
 };
 use kind_law::{
-    Define, Kind, Propagate, Reading, are_apart, are_still, change_by, end_of_var,
-    is_function_kept, movement_of, next_of, reason_of, span, var_of,
+    Define, Kind, Propagate, Reading, Scratch, Visited, add_implied, are_apart, are_same,
+    are_still, change_by, difference_of, end_of_var, is_function_kept, movement_of, next_of,
+    reason_of, span, var_of, visit_of,
 };
+use kind_parts::{bound_row, is_new, with_output};
+use kind_sum::SumRelation;
 use std::alloc::{AllocError, Global};
 use std::marker::Model;
 
 /// A linear relation, with the argument that is 1 exactly where it holds and else 0.
 #[derive(Drop)]
 pub struct LinearReified {
-    linear: Linear,
+    linear: SumRelation,
     output: Arg,
     vars: Vec<VarId>,
     single: bool,
 }
 
 impl Model for LinearReified {
-    ghost use Rattle.kind_linear.specs.Reified.{Truth};
+    ghost use Rattle.kind_linear.specs.LinearReified.{LinearReified};
     ghost use Rattle.kind_linear.specs.TruthNext.{IsTruthKept};
 
-    ghost Value = { Truth };
+    ghost Value = { LinearReified };
 
-    ghost view = { λ k. record { form = k.linear; output = k.output } };
+    ghost view = { λ k. record { sum = k.linear; output = k.output } };
 
-    ghost invariant = { λ k. IsTruthKept k.vars.items k.single (record { form = k.linear; output = k.output }) };
+    ghost invariant = { λ k. IsTruthKept k.vars.items k.single (record { sum = k.linear; output = k.output }) };
 }
 
 impl LinearReified {
@@ -56,9 +56,9 @@ impl LinearReified {
         output: Arg,
     ) -> Result<LinearReified, AllocError>
         requires { length coefs.now ≡ length args.now }
-        ensures { IfOk result (λ k. k ≡ record { form = record { terms = terms_of coefs.now args.now; relation = relation; bound = bound }; output = output }) }
+        ensures { IfOk result (λ k. k ≡ record { sum = record { terms = terms_of coefs.now args.now; relation = relation; bound = bound }; output = output }) }
     {
-        let linear = Linear::new(alloc, coefs, args, relation, bound)?;
+        let linear = SumRelation::new(alloc, coefs, args, relation, bound)?;
         let vars = with_output(alloc, linear.vars(), output)?;
         let single = are_single(&linear, output);
         Ok(LinearReified {
@@ -73,74 +73,92 @@ impl LinearReified {
 impl LinearReified {
     ghost use Rattle.std.specs.Prelude.{◌≡◌, ◌<◌, length};
     ghost use Rattle.dom_core.specs.View.{movement_at};
-    ghost use Rattle.kind_law.specs.Laws.{Each, AllBelow, befores, afters, IsTrueChange};
-    ghost use Rattle.kind_linear.specs.Linear.{form_vars, FormFits};
-    ghost use Rattle.kind_linear.specs.Output.{HasBits};
-    ghost use Rattle.kind_linear.specs.Reified.{truth_range, truth_changed, truth_movement};
+    ghost use Rattle.kind_law.specs.Argument.{arg_change};
+    ghost use Rattle.kind_law.specs.Laws.{Each, AllBelow, befores, afters, changes, IsTrueChange};
+    ghost use Rattle.kind_sum.specs.SumRelation.{sum_vars, SumFits};
+    ghost use Rattle.kind_sum.specs.Sum.{total};
+    ghost use Rattle.dom_core.specs.Ends.{HasBits};
+    ghost use Rattle.kind_linear.specs.LinearReified.{reified_range, reified_changed, reified_own_change};
 
     /// The truths under intervals.
     fn truths<I: Intervals>(&self, intervals: &I) -> Interval
-        requires below { Each (λ u. u.0 < I.width intervals.now) (form_vars self.now.form) }
-        requires ready { Each (λ u. I.ready intervals.now u.0) (form_vars self.now.form) }
-        requires fits { FormFits self.now.form (I.spans intervals.now) }
-        ensures range { result ≡ truth_range self.now (I.spans intervals.now) }
+        requires below { Each (λ u. u.0 < I.width intervals.now) (sum_vars self.now.sum) }
+        requires ready { Each (λ u. I.ready intervals.now u.0) (sum_vars self.now.sum) }
+        requires fits { SumFits self.now.sum (I.spans intervals.now) }
+        ensures range { result ≡ reified_range self.now (I.spans intervals.now) }
         ensures bits { HasBits 1 result }
     {
         let total = self.linear.total(Reading::Values, intervals);
         self.linear.truth(total)
     }
 
-    /// The change of the truth under a view.
-    fn truth_change(&self, view: &View) -> Interval
-        requires below { AllBelow (length view.now) (form_vars self.now.form) }
-        requires before { FormFits self.now.form (befores view.now) }
-        requires after { FormFits self.now.form (afters view.now) }
-        requires change { Each (λ u. IsTrueChange (movement_at view.now u.0)) (form_vars self.now.form) }
-        ensures { result ≡ truth_changed self.now view.now }
+    /// The change of the truth under a view, where its ranges before and after are known.
+    fn truth_change(&self, view: &View, before: Interval, after: Interval) -> Interval
+        requires below { AllBelow (length view.now) (sum_vars self.now.sum) }
+        requires fits_before { SumFits self.now.sum (befores view.now) }
+        requires fits_after { SumFits self.now.sum (afters view.now) }
+        requires change { Each (λ u. IsTrueChange (movement_at view.now u.0)) (sum_vars self.now.sum) }
+        requires before { before ≡ reified_range self.now (befores view.now) }
+        requires after { after ≡ reified_range self.now (afters view.now) }
+        requires bits { HasBits 102 before × HasBits 102 after }
+        ensures { result ≡ reified_changed self.now view.now }
     {
-        let still = are_still(self.linear.vars(), view);
-        let sum = self.linear.total(Reading::Changes, &Changes(view));
-        let before = self.truths(&Before(view));
-        let after = self.truths(&After(view));
-        let row = row_of(self.linear.relation(), sum, before, after);
-        change_by(still, row, before, after)
+        if are_still(self.linear.vars(), view) {
+            return Interval::new(0, 0);
+        }
+        change_by(self.own_truth_change(view, before, after), before, after)
     }
 
-    /// The movement of the truth under a view.
-    fn truth_movement(&self, view: &View) -> Movement
-        requires below { AllBelow (length view.now) (form_vars self.now.form) }
-        requires before { FormFits self.now.form (befores view.now) }
-        requires after { FormFits self.now.form (afters view.now) }
-        requires change { Each (λ u. IsTrueChange (movement_at view.now u.0)) (form_vars self.now.form) }
-        ensures { result ≡ truth_movement self.now view.now }
+    /// The truth's own change under a view, where its ranges before and after are known.
+    fn own_truth_change(&self, view: &View, before: Interval, after: Interval) -> Interval
+        requires below { AllBelow (length view.now) (sum_vars self.now.sum) }
+        requires fits_before { SumFits self.now.sum (befores view.now) }
+        requires fits_after { SumFits self.now.sum (afters view.now) }
+        requires change { Each (λ u. IsTrueChange (movement_at view.now u.0)) (sum_vars self.now.sum) }
+        requires before { before ≡ reified_range self.now (befores view.now) }
+        requires after { after ≡ reified_range self.now (afters view.now) }
+        requires bits { HasBits 102 before × HasBits 102 after }
+        ensures { result ≡ reified_own_change self.now view.now }
     {
-        Movement {
-            before: self.truths(&Before(view)),
-            after: self.truths(&After(view)),
-            change: self.truth_change(view),
+        match self.linear.relation() {
+            Relation::AtMost => bound_row(self.sum_change(view)),
+            Relation::Equal => difference_of(after, before),
+            Relation::Differ => difference_of(after, before),
         }
+    }
+
+    /// How the sum changes under a view.
+    fn sum_change(&self, view: &View) -> Interval
+        requires below { AllBelow (length view.now) (sum_vars self.now.sum) }
+        requires before { SumFits self.now.sum (befores view.now) }
+        requires after { SumFits self.now.sum (afters view.now) }
+        requires change { Each (λ u. IsTrueChange (movement_at view.now u.0)) (sum_vars self.now.sum) }
+        ensures { result ≡ total self.now.sum.terms (arg_change (changes view.now)) }
+    {
+        self.linear.total(Reading::Changes, &Changes(view))
     }
 }
 
 impl LinearReified {
-    ghost use Rattle.std.specs.Prelude.{◌≡◌, [], length, OnOk, OnErr};
+    ghost use Rattle.std.specs.Prelude.{◌≡◌, [], false, length, IfOk, OnOk, OnErr};
+    ghost use Rattle.kind_law.specs.Visit.{AreEnds, IsVisited};
     ghost use Rattle.dom_cells.specs.Box.{cell_of};
     ghost use Rattle.kind_law.specs.Laws.{AllBelow, hulls};
     ghost use Rattle.kind_law.specs.Reason.{IsCause, IsRead, IsReason, asked};
-    ghost use Rattle.kind_linear.specs.Explained.{IsVerdict};
-    ghost use Rattle.kind_linear.specs.Linear.{FormFits};
-    ghost use Rattle.kind_linear.specs.Reified.{truth_refuted, truth_vars};
-    ghost use Rattle.kind_linear.specs.Slack.{IsArgEnd};
+    ghost use Rattle.kind_linear.specs.Verdict.{IsVerdict};
+    ghost use Rattle.kind_sum.specs.SumRelation.{SumFits};
+    ghost use Rattle.kind_linear.specs.LinearReified.{reified_refuted, reified_vars};
+    ghost use Rattle.kind_parts.specs.Walk.{IsArgEnd};
     ghost use Rattle.kind_law.specs.Argument.{arg_ends};
-    ghost use Rattle.kind_linear.specs.Sum.{total};
-    ghost use Rattle.kind_linear.specs.TruthNext.{AreSingle};
+    ghost use Rattle.kind_sum.specs.Sum.{total};
+    ghost use Rattle.kind_linear.specs.TruthNext.{AreSingle, AreSpans};
 
     /// The implied end of the output, where that is a variable.
     fn output_end(&self, cells: &Cells) -> Option<Literal>
         requires single { AreSingle self.now }
-        requires below { AllBelow (length cells.now.starts) (truth_vars self.now) }
-        requires fits { FormFits self.now.form (hulls (cell_of cells.now)) }
-        ensures { IsArgEnd (truth_refuted self.now) (cell_of cells.now) self.now.output result }
+        requires below { AllBelow (length cells.now.state.starts) (reified_vars self.now) }
+        requires fits { SumFits self.now.sum (hulls (cell_of cells.now.state)) }
+        ensures { IsArgEnd (reified_refuted self.now) (cell_of cells.now.state) self.now.output result }
     {
         match self.output {
             Arg::Const(_) => None,
@@ -148,47 +166,80 @@ impl LinearReified {
         }
     }
 
-    /// Writes the reason by one end of the output and one of the sum.
-    fn reason_by(
+    /// Tells all implied ends in an empty clause, the output's last.
+    fn tell_ends(
         &self,
         cells: &Cells,
-        implied: Option<Literal>,
-        verdict: Verdict,
-        out: &mut Clause,
-    ) -> Result<(), AllocError>
-        requires below { AllBelow (length cells.now.starts) (truth_vars self.now) }
-        requires cause { IsCause (truth_refuted self.now) (cell_of cells.now) implied }
-        requires var { IsRead (length cells.now.starts) implied }
-        requires verdict { IsVerdict self.now.form (total self.now.form.terms (arg_ends (hulls (asked cells.now implied)))) (arg_ends (hulls (asked cells.now implied)) self.now.output) verdict }
-        ensures reason { OnOk result (IsReason (truth_refuted self.now) cells.now implied out.new) }
-        ensures none { OnErr result (out.new ≡ []) }
+        known: Interval,
+        span: Interval,
+        ends: &mut Clause,
+    ) -> Result<Visited, AllocError>
+        requires single { AreSingle self.now }
+        requires below { AllBelow (length cells.now.state.starts) (reified_vars self.now) }
+        requires spans { AreSpans self.now known span (cell_of cells.now.state) }
+        requires quiet { reified_refuted self.now (cell_of cells.now.state) ≡ false }
+        requires empty { ends.old ≡ [] }
+        ensures visited { IfOk result (λ v. IsVisited (reified_refuted self.now) (reified_vars self.now) (cell_of cells.now.state) (length cells.now.state.starts) v ends.new) }
+        ensures none { OnErr result (ends.new ≡ []) }
     {
-        out.clear();
-        let written = write_truth_reason(&self.linear, self.output, cells, implied, verdict, out);
-        if written.is_err() {
-            out.clear();
+        if let Err(error) = self.write_ends(cells, known, span, ends) {
+            ends.clear();
+            return Err(error);
         }
-        written
+        Ok(Visited::Ends {
+            more: !ends.literals().is_empty(),
+        })
+    }
+
+    /// Writes for each variable the end that is implied, the lower one first, that of the output last.
+    fn write_ends(
+        &self,
+        cells: &Cells,
+        known: Interval,
+        span: Interval,
+        ends: &mut Clause,
+    ) -> Result<(), AllocError>
+        requires single { AreSingle self.now }
+        requires below { AllBelow (length cells.now.state.starts) (reified_vars self.now) }
+        requires spans { AreSpans self.now known span (cell_of cells.now.state) }
+        requires empty { ends.old ≡ [] }
+        ensures { OnOk result (AreEnds (reified_refuted self.now) (reified_vars self.now) (cell_of cells.now.state) (length cells.now.state.starts) ends.new) }
+    {
+        let _width = cells.width();
+        let spans = TruthSpans {
+            linear: &self.linear,
+            output: self.output,
+            total: known,
+            span,
+        };
+        spans.write_ends(cells, ends)?;
+        let end = self.output_end(cells);
+        add_implied(end, ends)?;
+        Ok(())
     }
 }
 
 impl Kind for LinearReified {
     ghost use Rattle.std.specs.Prelude.{false};
-    ghost use Rattle.kind_linear.specs.Linear.{FormFits};
-    ghost use Rattle.kind_linear.specs.Reified.{truth_vars, truth_met, truth_kept, truth_refuted};
-    ghost use Rattle.kind_linear.specs.ReifiedLaws.{truth-fits, truth-shrink, truth-fixed, truth-keep};
+    ghost use Rattle.kind_sum.specs.SumRelation.{sum_vars, sum_size, SumFits};
+    ghost use Rattle.kind_linear.specs.LinearReified.{reified_vars, reified_met, reified_kept, reified_refuted};
+    ghost use Rattle.kind_linear.specs.LinearReifiedLaws.{reified-fits, reified-width, reified-measured, reified-shrink, reified-fixed, reified-keep, reified-still};
 
-    ghost vars = { truth_vars };
+    ghost vars = { reified_vars };
 
     ghost inside = { λ k v. false };
 
-    ghost fits = { λ k. FormFits k.form };
+    ghost measured = { λ k. sum_vars k.sum };
 
-    ghost met = { truth_met };
+    ghost size = { λ k. sum_size k.sum };
 
-    ghost kept = { truth_kept };
+    ghost fits = { λ k. SumFits k.sum };
 
-    ghost refuted = { truth_refuted };
+    ghost met = { reified_met };
+
+    ghost kept = { reified_kept };
+
+    ghost refuted = { reified_refuted };
 
     fn vars(&self) -> &[VarId] {
         self.vars.as_slice()
@@ -198,6 +249,10 @@ impl Kind for LinearReified {
         false
     }
 
+    fn is_too_wide<I: Intervals>(&self, intervals: &I) -> bool {
+        self.linear.is_too_wide(intervals)
+    }
+
     fn holds(&self, a: &Assignment) -> bool {
         let truth = number_of(self.linear.holds(a));
         let output = span(self.output, Reading::Values, &Point(a));
@@ -205,9 +260,15 @@ impl Kind for LinearReified {
     }
 
     fn keeps(&self, view: &View) -> bool {
-        let truth = self.truth_movement(view);
         let output = movement_of(self.output, view);
-        is_function_kept(true, truth, output)
+        if self.is_at_rest(view, &output) {
+            return true;
+        }
+        let after = self.truths(&After(view));
+        if are_same(after, output.after) {
+            return true;
+        }
+        self.is_kept_by_change(view, after, output)
     }
 
     fn refutes_in<R: Region>(&self, cells: &R) -> bool {
@@ -216,16 +277,41 @@ impl Kind for LinearReified {
         are_apart(truth, output)
     }
 
-    ghost fits_law = { truth-fits };
+    ghost fits_law = { reified-fits };
 
-    ghost shrink_law = { truth-shrink };
+    ghost width_law = { reified-width };
 
-    ghost fixed_law = { truth-fixed };
+    ghost measured_law = { reified-measured };
 
-    ghost keep_law = { truth-keep };
+    ghost shrink_law = { reified-shrink };
+
+    ghost fixed_law = { reified-fixed };
+
+    ghost keep_law = { reified-keep };
+
+    ghost still_law = { reified-still };
 }
 
 impl Propagate for LinearReified {
+    fn visit(
+        &self,
+        cells: &Cells,
+        _scratch: &mut Scratch,
+        ends: &mut Clause,
+    ) -> Result<Visited, AllocError> {
+        if !self.single {
+            return visit_of(self, cells, ends);
+        }
+        ends.clear();
+        let _width = cells.width();
+        let total = self.linear.total(Reading::Values, &Hulls(cells));
+        let span = span(self.output, Reading::Values, &Hulls(cells));
+        if are_apart(self.linear.truth(total), span) {
+            return Ok(Visited::Refuted);
+        }
+        self.tell_ends(cells, total, span, ends)
+    }
+
     fn next(&self, cells: &Cells) -> Option<Literal> {
         if !self.single {
             return next_of(self, cells);
@@ -237,7 +323,7 @@ impl Propagate for LinearReified {
         self.output_end(cells)
     }
 
-    fn reason(
+    fn write_reason(
         &self,
         cells: &Cells,
         implied: Option<Literal>,
@@ -245,33 +331,50 @@ impl Propagate for LinearReified {
     ) -> Result<(), AllocError> {
         match verdict_of(&self.linear, self.output, cells, implied) {
             None => reason_of(self, cells, implied, out),
-            Some(verdict) => self.reason_by(cells, implied, verdict, out),
+            Some(verdict) => {
+                write_truth_reason(&self.linear, self.output, cells, implied, verdict, out)
+            }
         }
     }
 }
 
 impl Define for LinearReified {
-    ghost use Rattle.kind_linear.specs.Linear.{form_vars, FormFits};
+    ghost use Rattle.std.specs.Prelude.{true};
+    ghost use Rattle.kind_sum.specs.SumRelation.{sum_vars, SumFits};
     ghost use Rattle.kind_law.specs.Argument.{var_of};
-    ghost use Rattle.kind_linear.specs.Reified.{IsGiver, truth_given, truth_range, truth_changed};
-    ghost use Rattle.kind_linear.specs.ReifiedLaws.{truth-apart, truth-value, truth-input, truth-range, truth-monotone, truth-change, truth-fixes};
+    ghost use Rattle.kind_linear.specs.LinearReified.{is_giver, reified_given, reified_range, reified_own_change};
+    ghost use Rattle.kind_linear.specs.LinearReifiedLaws.{reified-inputs, reified-pass, reified-input_width, reified-measured_inputs, reified-apart, reified-parts, reified-value, reified-input, reified-range, reified-monotone, reified-own_change, reified-fixes};
 
-    ghost functional = { IsGiver };
+    ghost functional = { is_giver };
 
     ghost output = { λ k. var_of k.output };
 
-    ghost inputs = { λ k. form_vars k.form };
+    ghost inputs = { λ k. sum_vars k.sum };
 
-    ghost fits_inputs = { λ k. FormFits k.form };
+    ghost fits_inputs = { λ k. SumFits k.sum };
 
-    ghost given = { truth_given };
+    ghost defined = { λ k s. true };
 
-    ghost ranged = { truth_range };
+    ghost given = { reified_given };
 
-    ghost changed = { truth_changed };
+    ghost ranged = { reified_range };
+
+    ghost own_change = { reified_own_change };
+
+    fn is_functional(&self) -> bool {
+        is_variable(self.output) && is_new(self.linear.vars(), self.output)
+    }
 
     fn output(&self) -> VarId {
         var_of(self.output)
+    }
+
+    fn inputs(&self) -> &[VarId] {
+        self.linear.vars()
+    }
+
+    fn is_defined_over<I: Intervals>(&self, _intervals: &I) -> bool {
+        true
     }
 
     fn value(&self, a: &Assignment) -> i64 {
@@ -282,28 +385,79 @@ impl Define for LinearReified {
         self.truths(intervals)
     }
 
-    fn change(&self, view: &View) -> Interval {
-        self.truth_change(view)
+    fn own_change(&self, view: &View, before: Interval, after: Interval) -> Interval {
+        self.own_truth_change(view, before, after)
     }
 
-    ghost apart_law = { truth-apart };
+    ghost inputs_law = { reified-inputs };
 
-    ghost value_law = { truth-value };
+    ghost pass_law = { reified-pass };
 
-    ghost input_law = { truth-input };
+    ghost input_width_law = { reified-input_width };
 
-    ghost range_law = { truth-range };
+    ghost measured_inputs_law = { reified-measured_inputs };
 
-    ghost monotone_law = { truth-monotone };
+    ghost apart_law = { reified-apart };
 
-    ghost change_law = { truth-change };
+    ghost parts_law = { reified-parts };
 
-    ghost fixes_law = { truth-fixes };
+    ghost value_law = { reified-value };
+
+    ghost input_law = { reified-input };
+
+    ghost range_law = { reified-range };
+
+    ghost monotone_law = { reified-monotone };
+
+    ghost own_change_law = { reified-own_change };
+
+    ghost fixes_law = { reified-fixes };
+}
+
+impl LinearReified {
+    ghost use Rattle.std.specs.Prelude.{◌≡◌, ◌&&◌, length, pos, true};
+    ghost use Rattle.dom_core.specs.Ends.{only, HasBits};
+    ghost use Rattle.dom_core.specs.View.{movement_at};
+    ghost use Rattle.kind_law.specs.Function.{are_one, function_kept};
+    ghost use Rattle.kind_law.specs.Laws.{Each, AllBelow, all_still, befores, afters, IsTrueChange};
+    ghost use Rattle.kind_sum.specs.SumRelation.{sum_vars, SumFits};
+    ghost use Rattle.kind_linear.specs.LinearReified.{reified_movement, reified_range};
+
+    /// Whether the view moves neither a variable of the sum nor the output.
+    fn is_at_rest(&self, view: &View, output: &Movement) -> bool
+        requires { AllBelow (length view.now) (sum_vars self.now.sum) }
+        ensures { result ≡ (all_still (sum_vars self.now.sum) view.now && are_one (only (pos 0)) output.now.change) }
+    {
+        if !are_still(self.linear.vars(), view) {
+            return false;
+        }
+        are_same(Interval::new(0, 0), output.change)
+    }
+
+    /// Whether the output keeps the value of the truth, of which the range after is known.
+    fn is_kept_by_change(&self, view: &View, after: Interval, output: Movement) -> bool
+        requires below { AllBelow (length view.now) (sum_vars self.now.sum) }
+        requires before { SumFits self.now.sum (befores view.now) }
+        requires fits { SumFits self.now.sum (afters view.now) }
+        requires change { Each (λ u. IsTrueChange (movement_at view.now u.0)) (sum_vars self.now.sum) }
+        requires after { after ≡ reified_range self.now (afters view.now) }
+        requires bits { HasBits 1 after }
+        ensures { result ≡ function_kept true (reified_movement self.now view.now) output }
+    {
+        let before = self.truths(&Before(view));
+        let change = self.truth_change(view, before, after);
+        let truth = Movement {
+            before,
+            after,
+            change,
+        };
+        is_function_kept(true, truth, output)
+    }
 }
 
 /// Whether no variable of the sum is known to come twice, and the output is none of them.
-fn are_single(linear: &Linear, output: Arg) -> bool
-    ensures { result ≡ true → AreSingle (record { form = linear.now; output = output }) }
+fn are_single(linear: &SumRelation, output: Arg) -> bool
+    ensures { result ≡ true → AreSingle (record { sum = linear.now; output = output }) }
 {
     linear.is_single() && is_new(linear.vars(), output)
 }
@@ -315,33 +469,12 @@ fn number_of(truth: bool) -> i128
     if truth { 1 } else { 0 }
 }
 
-/// How a truth may change where the sum changes so and the truths are these before and after.
-fn row_of(relation: Relation, change: Interval, before: Interval, after: Interval) -> Interval
-    requires before { HasBits 1 before }
-    requires after { HasBits 1 after }
-    ensures { result ≡ truth_row relation change before after }
+/// Whether the argument is a variable.
+fn is_variable(arg: Arg) -> bool
+    ensures { result ≡ is_variable arg }
 {
-    match relation {
-        Relation::AtMost => bound_row(change),
-        Relation::Equal => difference(after, before),
-        Relation::Differ => difference(after, before),
+    match arg {
+        Arg::Var(_) => true,
+        Arg::Const(_) => false,
     }
-}
-
-/// The differences of a truth of the one and a truth of the other.
-fn difference(after: Interval, before: Interval) -> Interval
-    requires after { HasBits 1 after }
-    requires before { HasBits 1 before }
-    ensures { result ≡ difference_ends after before }
-{
-    Interval::new(after.lo() - before.hi(), after.hi() - before.lo())
-}
-
-/// How the truth of a bound may change where the sum changes so.
-fn bound_row(change: Interval) -> Interval
-    ensures { result ≡ bound_row change }
-{
-    let lo = if change.hi() <= 0 { 0 } else { -1 };
-    let hi = if 0 <= change.lo() { 0 } else { 1 };
-    Interval::new(lo, hi)
 }

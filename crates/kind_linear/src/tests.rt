@@ -3,11 +3,11 @@ ghost use Rattle.dom_core.specs.declared.arg.Arg.{Arg};
 ghost use Rattle.dom_cells.specs.Box.{cell_of, start_at};
 ghost use Rattle.dom_cells.specs.Cell.{Suits};
 ghost use Rattle.kind_law.specs.Laws.{AllBelow, hulls};
-ghost use Rattle.kind_linear.specs.Linear.{form_vars, form_refuted, FormFits};
+ghost use Rattle.kind_sum.specs.SumRelation.{sum_vars, sum_refuted, SumFits};
 
 use super::*;
 use dom_cells::{Cells, Narrowed, Start};
-use dom_core::{Arg, Assignment, Before, Clause, Interval, Literal, Rel, VarId, View};
+use dom_core::{Arg, Assignment, Before, Clause, Interval, Literal, Rel, Relation, VarId, View};
 use kind_law::{Define, Kind, Propagate, are_still, change_by};
 use std::test::Fail;
 
@@ -73,10 +73,9 @@ fn a_change_is_what_the_row_and_the_ranges_allow(rt: HostRuntime) -> Result<(), 
     let row = Interval::new(-1, 4);
     let before = Interval::new(0, 2);
     let after = Interval::new(1, 5);
-    assert_eq!(rt; change_by(true, row, before, after), Interval::new(0, 0));
-    assert_eq!(rt; change_by(false, row, before, after), Interval::new(-1, 4));
+    assert_eq!(rt; change_by(row, before, after), Interval::new(-1, 4));
     assert_eq!(rt;
-        change_by(false, Interval::new(9, 9), before, after),
+        change_by(Interval::new(9, 9), before, after),
         Interval::new(-1, 5)
     );
     Ok(())
@@ -114,10 +113,10 @@ fn a_sum_above_its_bound_is_refuted(rt: HostRuntime) -> Result<(), Fail> {
 
 /// Cuts the cell of the literal's variable, which it must change.
 fn cut(cells: &mut Cells, literal: Literal) -> Result<(), Fail>
-    requires var { literal.var.0 < length cells.old.starts }
-    requires suits { Suits (start_at cells.old.starts literal.var.0) literal.rel }
-    ensures starts { OnOk result (cells.new.starts ≡ cells.old.starts) }
-    ensures literals { OnOk result (cells.new.literals ≡ cells.old.literals ++ literal ∷ []) }
+    requires var { literal.var.0 < length cells.old.state.starts }
+    requires suits { Suits (start_at cells.old.state.starts literal.var.0) literal.rel }
+    ensures starts { OnOk result (cells.new.state.starts ≡ cells.old.state.starts) }
+    ensures literals { OnOk result (cells.new.state.literals ≡ cells.old.state.literals ++ literal ∷ []) }
 {
     cells.reserve(1)?;
     match cells.narrow(literal) {
@@ -129,9 +128,9 @@ fn cut(cells: &mut Cells, literal: Literal) -> Result<(), Fail>
 
 /// The end that is implied, with its reason in `out`.
 fn explained(kind: &Linear, cells: &Cells, out: &mut Clause) -> Result<Option<Literal>, Fail>
-    requires below { AllBelow (length cells.now.starts) (form_vars kind.now) }
-    requires fits { FormFits kind.now (hulls (cell_of cells.now)) }
-    requires quiet { form_refuted kind.now (cell_of cells.now) ≡ false }
+    requires below { AllBelow (length cells.now.state.starts) (sum_vars kind.now) }
+    requires fits { SumFits kind.now (hulls (cell_of cells.now.state)) }
+    requires quiet { sum_refuted kind.now (cell_of cells.now.state) ≡ false }
 {
     let _width = cells.width();
     let implied = kind.next(cells);

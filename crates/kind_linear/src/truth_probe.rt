@@ -1,19 +1,18 @@
 //! Truths of sums of which the interval is known: what one variable's bound makes of them.
 ghost use Rattle.std.specs.Prelude.{◌≡◌, ◌<◌, ◌≤ℤ◌, ◌+ℤ◌, ◌-ℤ◌, FitsSigned};
 ghost use Rattle.std.specs.Int.{w128};
-ghost use Rattle.dom_core.specs.Ends.{scaled_ends};
-ghost use Rattle.kind_linear.specs.Output.{HasBits};
-ghost use Rattle.kind_linear.specs.Slack.{replaced_ends};
+ghost use Rattle.dom_core.specs.Ends.{scaled_ends, replaced_ends};
+ghost use Rattle.dom_core.specs.Ends.{HasBits};
 
-use crate::linear::Linear;
 use dom_cells::{Cells, Hulls, Kept};
 use dom_core::{Arg, Interval, Intervals, Literal, VarId};
 use kind_law::{Probe, are_apart};
+use kind_sum::SumRelation;
 
 /// A truth, with the intervals of its sum and of its output over a box, asked about the variable of one of its terms.
 #[derive(Drop)]
 pub(crate) struct TruthProbe<'a> {
-    pub(crate) linear: &'a Linear,
+    pub(crate) linear: &'a SumRelation,
     pub(crate) output: Arg,
     pub(crate) coef: i64,
     pub(crate) total: Interval,
@@ -23,17 +22,17 @@ pub(crate) struct TruthProbe<'a> {
 impl Probe for TruthProbe<'_> {
     ghost use Rattle.std.specs.Prelude.{false};
     ghost use Rattle.dom_cells.specs.Box.{cell_of};
-    ghost use Rattle.kind_linear.specs.Reified.{truth_vars, truth_refuted};
-    ghost use Rattle.kind_linear.specs.ReifiedLaws.{truth-shrink};
+    ghost use Rattle.kind_linear.specs.LinearReified.{reified_vars, reified_refuted};
+    ghost use Rattle.kind_linear.specs.LinearReifiedLaws.{reified-shrink};
     ghost use Rattle.kind_linear.specs.TruthNext.{IsTruthSlack};
 
-    ghost vars = { λ p. truth_vars (record { form = p.linear.now; output = p.output }) };
+    ghost vars = { λ p. reified_vars (record { sum = p.linear.now; output = p.output }) };
 
     ghost inside = { λ p v. false };
 
-    ghost refuted = { λ p. truth_refuted (record { form = p.linear.now; output = p.output }) };
+    ghost refuted = { λ p. reified_refuted (record { sum = p.linear.now; output = p.output }) };
 
-    ghost answers = { λ p m u. IsTruthSlack (record { form = p.linear.now; output = p.output }) p.coef p.total p.span (cell_of m) u };
+    ghost answers = { λ p m u. IsTruthSlack (record { sum = p.linear.now; output = p.output }) p.coef p.total p.span (cell_of m) u };
 
     fn is_refuted_within(&self, cells: &Cells, literal: Literal) -> bool {
         let _width = cells.width();
@@ -44,7 +43,7 @@ impl Probe for TruthProbe<'_> {
         are_apart(self.linear.truth(total), self.span)
     }
 
-    ghost shrink_law = { λ p. truth-shrink (record { form = p.linear.now; output = p.output }) };
+    ghost shrink_law = { λ p. reified-shrink (record { sum = p.linear.now; output = p.output }) };
 }
 
 /// The interval of a term.

@@ -2,12 +2,12 @@ ghost use Rattle.std.specs.Prelude.{length};
 ghost use Rattle.dom_cells.specs.Box.{cell_of};
 ghost use Rattle.dom_cells.specs.Cell.{IsInOrder};
 ghost use Rattle.kind_law.specs.Laws.{AllBelow, hulls};
-ghost use Rattle.kind_linear.specs.Linear.{FormFits};
-ghost use Rattle.kind_linear.specs.Reified.{truth_vars};
+ghost use Rattle.kind_sum.specs.SumRelation.{SumFits};
+ghost use Rattle.kind_linear.specs.LinearReified.{reified_vars};
 
 use super::*;
 use dom_cells::{Cells, Start};
-use dom_core::{Arg, Literal, Rel, VarId};
+use dom_core::{Arg, Literal, Rel, Relation, VarId};
 use kind_law::{Kind, Propagate};
 use std::test::Fail;
 
@@ -19,8 +19,8 @@ const Z: VarId = VarId(2);
 
 /// The end that a truth implies over cells that aren't given up.
 fn next_of_open(kind: &LinearReified, cells: &Cells) -> Result<Option<Literal>, Fail>
-    requires below { AllBelow (length cells.now.starts) (truth_vars kind.now) }
-    requires fits { FormFits kind.now.form (hulls (cell_of cells.now)) }
+    requires below { AllBelow (length cells.now.state.starts) (reified_vars kind.now) }
+    requires fits { SumFits kind.now.sum (hulls (cell_of cells.now.state)) }
 {
     if kind.refutes(cells) {
         return Err("a box with solutions was given up".into());

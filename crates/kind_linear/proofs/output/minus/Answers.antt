@@ -1,10 +1,8 @@
+use Rattle.dom_core.proofs.EndsLaws.{same_ends, fits_near, near_size}
 use Rattle.std.proofs.Common.{rules, ◌≡◌, ◌∙◌, ap, arith, subst, sym, FitsSigned, w64, ◌≤◌, ◌^◌, ℤ, ◌-ℤ◌, to_z, of_z}
 use Rattle.std.proofs.lemmas.Int.{ints, to_z-of_z}
 use Rattle.std.specs.Int.{w128}
-use Rattle.dom_core.specs.Ends.{Ends, only, difference_ends}
-use Rattle.kind_linear.specs.InsertLaws.{same_ends}
-use Rattle.kind_linear.specs.Sum.{size_of}
-use Rattle.kind_linear.proofs.RunLaws.{fits_near, near_size}
+use Rattle.dom_core.specs.Ends.{Ends, only, difference_ends, size_of}
 use Rattle.kind_linear.proofs.output.minus.Goals as goal
 
 pub returns-clause-difference : goal.returns-clause-difference

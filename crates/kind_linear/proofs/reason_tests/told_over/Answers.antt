@@ -3,7 +3,7 @@ use Rattle.std.proofs.lemmas.Int.{ints}
 use Rattle.dom_cells.specs.Box.{cell_of}
 use Rattle.dom_core.specs.declared.arg.Arg.TheVariants.{Var}
 use Rattle.kind_law.specs.Laws.{hulls}
-use Rattle.kind_linear.specs.Linear.{Form}
+use Rattle.kind_sum.specs.SumRelation.{SumRelation}
 use Rattle.kind_linear.proofs.PairLaws.{pair_fits, pair_terms}
 use Rattle.kind_linear.proofs.reason_tests.told_over.Goals as goal
 
@@ -16,7 +16,7 @@ why-requires-clause-fits c =
     let y_low : FitsSigned w64 c.lo-2.result = search rules in
     let y_high : FitsSigned w64 c.hi-2.result = search rules in
     let terms : c.in_ok-kind.kind.terms ≡ record { coef = c.args.a; arg = Var (record { 0 = 0 }) } ∷ record { coef = c.args.b; arg = Var (record { 0 = 1 }) } ∷ [] =
-    ap (λ (k : Form). k.terms) c.in_ok-kind.ensures ∙ pair_terms _ _ c.args.a c.args.b (omega (arith, ints)) (omega (arith, ints)) in
-    pair_fits c.in_ok-kind.kind c.args.a c.args.b (hulls (cell_of c.args.cells.now)) terms a_fits b_fits
+    ap (λ (k : SumRelation). k.terms) c.in_ok-kind.ensures ∙ pair_terms _ _ c.args.a c.args.b (omega (arith, ints)) (omega (arith, ints)) in
+    pair_fits c.in_ok-kind.kind c.args.a c.args.b (hulls (cell_of c.args.cells.now.state)) terms a_fits b_fits
     (record { low = subst (FitsSigned w64) c.lo.ensures.lo x_low; high = subst (FitsSigned w64) c.hi.ensures.hi x_high })
     (record { low = subst (FitsSigned w64) c.lo-2.ensures.lo y_low; high = subst (FitsSigned w64) c.hi-2.ensures.hi y_high })

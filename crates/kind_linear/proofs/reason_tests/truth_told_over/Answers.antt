@@ -4,7 +4,7 @@ use Rattle.dom_cells.specs.Box.{cell_of}
 use Rattle.dom_core.specs.declared.arg.Arg.TheVariants.{Var}
 use Rattle.kind_law.specs.Laws.{hulls}
 use Rattle.kind_linear.proofs.PairLaws.{pair_fits, pair_terms}
-use Rattle.kind_linear.specs.Reified.{Truth}
+use Rattle.kind_linear.specs.LinearReified.{LinearReified}
 use Rattle.kind_linear.proofs.reason_tests.truth_told_over.Goals as goal
 
 pub why-requires-clause-fits : goal.why-requires-clause-fits
@@ -15,8 +15,8 @@ why-requires-clause-fits c =
     let x_high : FitsSigned w64 c.hi.result = search rules in
     let y_low : FitsSigned w64 c.lo-2.result = search rules in
     let y_high : FitsSigned w64 c.hi-2.result = search rules in
-    let terms : c.in_ok-kind.kind.form.terms ≡ record { coef = c.args.one; arg = Var (record { 0 = 0 }) } ∷ record { coef = c.args.other; arg = Var (record { 0 = 1 }) } ∷ [] =
-    ap (λ (k : Truth). k.form.terms) c.in_ok-kind.ensures ∙ pair_terms _ _ c.args.one c.args.other (omega (arith, ints)) (omega (arith, ints)) in
-    pair_fits c.in_ok-kind.kind.form c.args.one c.args.other (hulls (cell_of c.args.cells.now)) terms a_fits b_fits
+    let terms : c.in_ok-kind.kind.sum.terms ≡ record { coef = c.args.one; arg = Var (record { 0 = 0 }) } ∷ record { coef = c.args.other; arg = Var (record { 0 = 1 }) } ∷ [] =
+    ap (λ (k : LinearReified). k.sum.terms) c.in_ok-kind.ensures ∙ pair_terms _ _ c.args.one c.args.other (omega (arith, ints)) (omega (arith, ints)) in
+    pair_fits c.in_ok-kind.kind.sum c.args.one c.args.other (hulls (cell_of c.args.cells.now.state)) terms a_fits b_fits
     (record { low = subst (FitsSigned w64) c.lo.ensures.lo x_low; high = subst (FitsSigned w64) c.hi.ensures.hi x_high })
     (record { low = subst (FitsSigned w64) c.lo-2.ensures.lo y_low; high = subst (FitsSigned w64) c.hi-2.ensures.hi y_high })

@@ -2,19 +2,19 @@ use Rattle.std.proofs.Common.{subst, Some}
 use Rattle.dom_cells.specs.Box.{cell_of}
 use Rattle.kind_law.specs.Next.{IsNext}
 use Rattle.kind_law.proofs.ReasonLaws.{next_cause}
-use Rattle.kind_linear.specs.Linear.{form_vars, form_refuted}
+use Rattle.kind_sum.specs.SumRelation.{sum_vars, sum_refuted}
 use Rattle.kind_linear.proofs.tests.explained.Goals as goal
 
 pub reason-requires-clause-cause : goal.reason-requires-clause-cause
 reason-requires-clause-cause c =
-    let next : IsNext (form_refuted c.args.kind.now) (form_vars c.args.kind.now) (cell_of c.args.cells.now) (Some c.in-Some.literal) =
-    subst (IsNext (form_refuted c.args.kind.now) (form_vars c.args.kind.now) (cell_of c.args.cells.now)) c.in-Some.is c.next-implied.ensures in
-    (next_cause (form_refuted c.args.kind.now) (form_vars c.args.kind.now) c.args.cells.now c.in-Some.literal
+    let next : IsNext (sum_refuted c.args.kind.now) (sum_vars c.args.kind.now) (cell_of c.args.cells.now.state) (Some c.in-Some.literal) =
+    subst (IsNext (sum_refuted c.args.kind.now) (sum_vars c.args.kind.now) (cell_of c.args.cells.now.state)) c.in-Some.is c.next-implied.ensures in
+    (next_cause (sum_refuted c.args.kind.now) (sum_vars c.args.kind.now) c.args.cells.now.state c.in-Some.literal
     c.width-width.ensures.sound c.requires.below next).1
 
 pub reason-requires-clause-var : goal.reason-requires-clause-var
 reason-requires-clause-var c =
-    let next : IsNext (form_refuted c.args.kind.now) (form_vars c.args.kind.now) (cell_of c.args.cells.now) (Some c.in-Some.literal) =
-    subst (IsNext (form_refuted c.args.kind.now) (form_vars c.args.kind.now) (cell_of c.args.cells.now)) c.in-Some.is c.next-implied.ensures in
-    (next_cause (form_refuted c.args.kind.now) (form_vars c.args.kind.now) c.args.cells.now c.in-Some.literal
+    let next : IsNext (sum_refuted c.args.kind.now) (sum_vars c.args.kind.now) (cell_of c.args.cells.now.state) (Some c.in-Some.literal) =
+    subst (IsNext (sum_refuted c.args.kind.now) (sum_vars c.args.kind.now) (cell_of c.args.cells.now.state)) c.in-Some.is c.next-implied.ensures in
+    (next_cause (sum_refuted c.args.kind.now) (sum_vars c.args.kind.now) c.args.cells.now.state c.in-Some.literal
     c.width-width.ensures.sound c.requires.below next).0

@@ -1,7 +1,7 @@
+use Rattle.dom_core.proofs.EndsLaws.{replaced_fits, exchanged_order, exchanged_is}
 use Rattle.std.proofs.Common.{rules, ◌∙◌, FitsSigned}
 use Rattle.std.proofs.lemmas.Int.{to_z-of_z}
 use Rattle.std.specs.Int.{w128}
-use Rattle.kind_linear.proofs.ReplacedLaws.{replaced_fits, exchanged_order, exchanged_is}
 use Rattle.kind_linear.proofs.truth_probe.replaced.Goals as goal
 
 pub exchanged-lo-requires-clause-whole : goal.exchanged-lo-requires-clause-whole

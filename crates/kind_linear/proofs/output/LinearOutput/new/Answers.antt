@@ -2,12 +2,14 @@ use Rattle.std.proofs.Common.{rules, FitsSigned, w64, ℤ, ◌≡◌, ◌∙◌,
 use Rattle.std.proofs.lemmas.Int.{to_z-of_z}
 use Rattle.dom_core.specs.declared.arg.Arg.TheVariants.{Var}
 use Rattle.dom_core.specs.declared.var_id.VarId.{VarId}
-use Rattle.kind_linear.specs.Linear.{Form}
-use Rattle.kind_linear.specs.Output.{Equation, others_at, IsSolved}
-use Rattle.kind_law.specs.Argument.{var_of, distinct}
-use Rattle.kind_linear.specs.Sum.{vars_of}
-use Rattle.kind_linear.specs.declared.term.Term.{Term}
-use Rattle.kind_linear.proofs.SolvedLaws.{equation_at, solved_is}
+use Rattle.kind_sum.specs.SumRelation.{SumRelation}
+use Rattle.kind_linear.specs.LinearOutput.{LinearOutput, IsSolved}
+use Rattle.kind_sum.specs.Place.{others_at}
+use Rattle.kind_law.specs.Argument.{var_of}
+use Rattle.kind_parts.specs.Vars.{Gathered, gathered}
+use Rattle.kind_sum.specs.Sum.{vars_of}
+use Rattle.kind_sum.specs.declared.term.Term.{Term}
+use Rattle.kind_linear.proofs.SolvedLaws.{output_at, solved_is}
 use Rattle.kind_linear.proofs.output.LinearOutput.new.Goals as goal
 
 -- what reads beyond the terms would give
@@ -15,11 +17,11 @@ abbrev none : Term
 none = record { coef = pos 0; arg = Var (record { 0 = 0 }) }
 
 -- the equation with its parts as they were computed
-computed : (k : Form) (place : ℕ) (t : Term) (turned : Bool) (output : VarId) → turned ≡ int_lt t.coef (pos 0) → output ≡ var_of t.arg
-    → equation_at k place t ≡ record { front = take place k.terms; turned = turned; output = output; back = drop (place + 1) k.terms; bound = k.bound }
+computed : (k : SumRelation) (place : ℕ) (t : Term) (turned : Bool) (output : VarId) → turned ≡ int_lt t.coef (pos 0) → output ≡ var_of t.arg
+    → output_at k place t ≡ record { front = take place k.terms; turned = turned; output = output; back = drop (place + 1) k.terms; bound = k.bound }
 computed k place t turned output e f =
-    ap (λ (b : Bool). let d : Equation = record { front = take place k.terms; turned = b; output = var_of t.arg; back = drop (place + 1) k.terms; bound = k.bound } in d) (sym e)
-    ∙ ap (λ (u : VarId). let d : Equation = record { front = take place k.terms; turned = turned; output = u; back = drop (place + 1) k.terms; bound = k.bound } in d) (sym f)
+    ap (λ (b : Bool). let d : LinearOutput = record { front = take place k.terms; turned = b; output = var_of t.arg; back = drop (place + 1) k.terms; bound = k.bound } in d) (sym e)
+    ∙ ap (λ (u : VarId). let d : LinearOutput = record { front = take place k.terms; turned = turned; output = u; back = drop (place + 1) k.terms; bound = k.bound } in d) (sym f)
 
 pub returns : goal.returns
 returns c =
@@ -32,7 +34,8 @@ returns c =
 
 pub invariant_of-result : goal.invariant_of-result
 invariant_of-result c = record {
-  form = (returns c).form;
+  sum = (returns c).sum;
   others = c.in_ok-others.ensures ∙ ap (λ (ts : List Term). others_at ts c.args.place) c.terms-2.ensures;
-  inputs = c.in_ok-inputs.ensures ∙ ap (λ (ts : List Term). distinct (vars_of ts)) (c.as_slice.ensures.value ∙ c.in_ok-others.ensures ∙ ap (λ (ts : List Term). others_at ts c.args.place) c.terms-2.ensures);
+  inputs = c.into_vars-inputs.ensures ∙ ap (λ (g : Gathered). g.vars) (c.in_ok-vars.ensures ∙ ap (λ (ts : List Term). gathered (vars_of ts)) (c.as_slice.ensures.value ∙ c.in_ok-others.ensures ∙ ap (λ (ts : List Term). others_at ts c.args.place) c.terms-2.ensures));
+  functional = (returns c).functional;
 }

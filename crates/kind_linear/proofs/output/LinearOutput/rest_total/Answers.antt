@@ -1,10 +1,11 @@
 use Rattle.std.proofs.Common.{◌≡◌, ◌∙◌, ap, ◌<◌, ◌≤◌, List, arith}
-use Rattle.kind_linear.specs.Output.{rest_of}
+use Rattle.dom_core.specs.Ends.{size_of}
+use Rattle.kind_linear.specs.LinearOutput.{rest_of}
 use Rattle.kind_law.specs.Argument.{arg_span}
-use Rattle.kind_linear.specs.Sum.{total, magnitude, vars_of, size_of}
+use Rattle.kind_sum.specs.Sum.{total, magnitude, vars_of}
 use Rattle.kind_law.proofs.ArgumentLaws.{each_listed}
-use Rattle.kind_linear.specs.SumLaws.{total_size}
-use Rattle.kind_linear.specs.declared.term.Term.{Term}
+use Rattle.kind_sum.specs.SumLaws.{total_size}
+use Rattle.kind_sum.specs.declared.term.Term.{Term}
 use Rattle.kind_linear.proofs.output.LinearOutput.rest_total.Goals as goal
 
 pub total_of-requires-clause-below : goal.total_of-requires-clause-below

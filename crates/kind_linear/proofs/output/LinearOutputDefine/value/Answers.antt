@@ -2,8 +2,8 @@ use Rattle.std.proofs.Common.{rules, ◌≡◌, ◌∙◌, ap, arith, subst, sym
 use Rattle.std.proofs.lemmas.Int.{ints, to_z-of_z}
 use Rattle.std.specs.Int.{w128}
 use Rattle.dom_core.specs.Ends.{Ends}
-use Rattle.kind_linear.specs.Output.{output_given}
-use Rattle.kind_linear.specs.OutputLaws.{range_point}
+use Rattle.kind_linear.specs.LinearOutput.{output_given}
+use Rattle.kind_linear.specs.LinearOutputLaws.{range_point}
 use Rattle.kind_linear.proofs.output.LinearOutputDefine.value.Goals as goal
 
 pub overflow_cast-result : goal.overflow_cast-result

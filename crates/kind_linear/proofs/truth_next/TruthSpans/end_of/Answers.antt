@@ -3,7 +3,7 @@ use Rattle.std.proofs.lemmas.Int.{to_z-of_z}
 use Rattle.dom_cells.specs.Box.{cell_of}
 use Rattle.dom_core.specs.declared.arg.Arg.TheVariants.{Var}
 use Rattle.kind_linear.specs.TruthNext.{IsTruthSlack}
-use Rattle.kind_linear.specs.declared.term.Term.{Term}
+use Rattle.kind_sum.specs.declared.term.Term.{Term}
 use Rattle.kind_linear.proofs.TruthNextLaws.{term_read, truth_slack_here}
 use Rattle.kind_linear.proofs.truth_next.TruthSpans.end_of.Goals as goal
 
@@ -13,13 +13,13 @@ none = record { coef = pos 0; arg = Var (record { 0 = 0 }) }
 
 pub first_end-requires-clause-var : goal.first_end-requires-clause-var
 first_end-requires-clause-var c =
-    term_read (record { form = c.args.self.now.linear.now; output = c.args.self.now.output }) (length c.args.cells.now.starts) c.args.at none c.in-Var.var c.requires.single c.requires.at
+    term_read (record { sum = c.args.self.now.linear.now; output = c.args.self.now.output }) (length c.args.cells.now.state.starts) c.args.at none c.in-Var.var c.requires.single c.requires.at
     (ap (λ (ts : List Term). (get_or ts c.args.at none).arg) (sym c.terms.ensures) ∙ c.in-Var.is) c.requires.below
 
 pub first_end-requires-clause-answers : goal.first_end-requires-clause-answers
 first_end-requires-clause-answers c =
     let fits : FitsSigned w64 (get_or c.terms.result.now c.args.at none).coef = search rules in
-    subst (λ (x : ℤ). IsTruthSlack (record { form = c.args.self.now.linear.now; output = c.args.self.now.output }) x c.args.self.now.total c.args.self.now.span (cell_of c.args.cells.now) c.in-Var.var)
+    subst (λ (x : ℤ). IsTruthSlack (record { sum = c.args.self.now.linear.now; output = c.args.self.now.output }) x c.args.self.now.total c.args.self.now.span (cell_of c.args.cells.now.state) c.in-Var.var)
     (ap (λ (ts : List Term). (get_or ts c.args.at none).coef) (sym c.terms.ensures) ∙ sym (to_z-of_z w64 (get_or c.terms.result.now c.args.at none).coef fits))
-    (truth_slack_here (record { form = c.args.self.now.linear.now; output = c.args.self.now.output }) c.args.at none c.in-Var.var c.args.self.now.total c.args.self.now.span (cell_of c.args.cells.now) c.requires.single c.requires.at
+    (truth_slack_here (record { sum = c.args.self.now.linear.now; output = c.args.self.now.output }) c.args.at none c.in-Var.var c.args.self.now.total c.args.self.now.span (cell_of c.args.cells.now.state) c.requires.single c.requires.at
     (ap (λ (ts : List Term). (get_or ts c.args.at none).arg) (sym c.terms.ensures) ∙ c.in-Var.is) c.requires.spans)

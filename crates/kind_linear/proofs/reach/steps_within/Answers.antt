@@ -1,8 +1,0 @@
-use Rattle.std.proofs.Common.{rules, ◌*◌, ◌<◌}
-use Rattle.kind_linear.proofs.ReachLaws.{steps_fit}
-use Rattle.kind_linear.proofs.reach.steps_within.Goals as goal
-
-pub returns : goal.returns
-returns c =
-    let more : c.args.room < c.args.pull.size * c.args.pull.steps = search rules in
-    steps_fit c.args.room c.args.pull.size c.args.pull.steps more

@@ -1,0 +1,9 @@
+pub mod Relation
+pub mod Set
+pub mod Vars
+pub mod Walk
+pub use Rattle.dom_core.specs.Ends
+pub use Rattle.dom_core.specs.Rises
+pub use Rattle.dom_cells.specs.Cell
+pub use Rattle.kind_law.specs.Argument
+pub use Rattle.kind_law.specs.Laws

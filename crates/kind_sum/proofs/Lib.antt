@@ -1,0 +1,11 @@
+pub mod BatchLaws
+pub mod EndLaws
+pub mod ExplainedLaws
+pub mod KeepLaws
+pub mod QuietLaws
+pub mod ReachLaws
+pub mod RunLaws
+pub mod SlackLaws
+pub mod ToldLaws
+pub mod VarLaws
+pub mod WidthLaws

@@ -1,0 +1,16 @@
+pub mod Explained
+pub mod InsertLaws
+pub mod Place
+pub mod Reach
+pub mod Slack
+pub mod Sum
+pub mod SumLaws
+pub mod SumRelation
+pub mod SumRelationLaws
+pub mod SumRelationStill
+pub mod Told
+pub use Rattle.dom_core.specs.Ends
+pub use Rattle.dom_core.specs.Assignment
+pub use Rattle.kind_law.specs.Laws
+pub use Rattle.kind_parts.specs.Relation
+pub use Rattle.kind_parts.specs.Vars
