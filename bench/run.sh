@@ -1,6 +1,7 @@
 #!/usr/bin/env bash
 # Times the built programs: on the model at the limit, on texts at the limit, which are shown, refused for their
-# many variables, and refused for one byte too many; and a sum of 1,000 terms, round after round.
+# many variables, and refused for one byte too many; a sum of 1,000 terms, round after round; and, over sums of 30, 300
+# and 1,000 terms, ends asked one by one and all at once, and views that are kept.
 set -eu
 cd "$(dirname "$0")/.."
 program=crates/dombreak/out/dombreak
@@ -26,9 +27,23 @@ echo "16,777,216 bytes with 100,000 variables, which are not built"
 timed show "$scratch/many.fzn"
 echo "16,777,217 bytes, which are too long"
 timed show "$scratch/long.fzn"
-echo "100 rounds of a sum of 1,000 terms"
 sum=crates/bench_linear/out/bench_linear
-for turn in 1 2 3; do
-  /usr/bin/time -q -f "  turn $turn: %e s, %M kB" "$sum" 2>&1 >"$scratch/counts"
-  cmp "$scratch/counts" crates/bench_linear/stdout
+"$sum" >"$scratch/counts"
+cmp "$scratch/counts" crates/bench_linear/stdout
+
+# summed WORD..: three times, with seconds, those of the processor, and the peak of memory
+summed() {
+  for turn in 1 2 3; do
+    /usr/bin/time -q -f "  turn $turn: %e s, %U s of the processor, %M kB" "$sum" "$@" 2>&1 >"$scratch/counts"
+  done
+  tail -n 1 "$scratch/counts" | sed 's/^/  /'
+}
+
+echo "100 rounds of a sum of 1,000 terms"
+summed rounds
+for size in 30 300 1000; do
+  for work in next visit keeps; do
+    echo "$work over a sum of $size terms"
+    summed "$work" "$size"
+  done
 done

@@ -3,23 +3,21 @@ ghost use Rattle.std.specs.Prelude.{◌≡◌, ◌≤◌, ◌<◌, ◌≤ℤ◌,
 ghost use Rattle.bench_linear.specs.Digits.{AreDigits, IsDigitSum};
 
 use dom_cells::Start;
-use dom_core::{Arg, Domain, DomainError, VarId};
-use kind_linear::{Linear, Relation};
+use dom_core::{Arg, Domain, DomainError, Relation, VarId};
+use kind_linear::Linear;
 use std::alloc::{AllocError, Global};
 
-/// How many terms the sum has.
+/// How many terms a sum has at most.
 pub(crate) const WIDTH: u32 = 1000;
 
-/// What the sum is at most: 71,000 above the least that it can be.
-const BOUND: i64 = -2_183_500;
-
-/// The sum, with at most this bound.
-pub(crate) fn digit_sum(alloc: Global) -> Result<Linear, AllocError>
-    ensures { IfOk result (IsDigitSum 1000) }
+/// A sum of so many variables, with at most this bound.
+pub(crate) fn digit_sum(alloc: Global, width: u32, bound: i64) -> Result<Linear, AllocError>
+    requires { width ≤ 1000 }
+    ensures { IfOk result (IsDigitSum width) }
 {
-    let mut coefs = Vec::with_capacity(alloc, WIDTH as usize)?;
-    let mut args = Vec::with_capacity(alloc, WIDTH as usize)?;
-    for at in 0..WIDTH {
+    let mut coefs = Vec::with_capacity(alloc, width as usize)?;
+    let mut args = Vec::with_capacity(alloc, width as usize)?;
+    for at in 0..width {
         coefs.push(coefficient(at))?;
         args.push(Arg::Var(VarId(at)))?;
     }
@@ -28,7 +26,7 @@ pub(crate) fn digit_sum(alloc: Global) -> Result<Linear, AllocError>
         coefs.as_slice(),
         args.as_slice(),
         Relation::AtMost,
-        BOUND,
+        bound,
     )?;
     Ok(sum)
 }
@@ -41,12 +39,12 @@ fn coefficient(at: u32) -> i64
     if at % 2 == 0 { size } else { -size }
 }
 
-/// All digits, for each variable.
-pub(crate) fn digit_starts(alloc: Global) -> Result<Vec<Start>, DomainError>
-    ensures { IfOk result (λ v. AreDigits 1000 v.items) }
+/// All digits, for each of so many variables.
+pub(crate) fn digit_starts(alloc: Global, width: u32) -> Result<Vec<Start>, DomainError>
+    ensures { IfOk result (λ v. AreDigits width v.items) }
 {
-    let mut starts = Vec::with_capacity(alloc, WIDTH as usize)?;
-    while starts.len() < WIDTH as usize {
+    let mut starts = Vec::with_capacity(alloc, width as usize)?;
+    while starts.len() < width as usize {
         let start = Start::Values(Domain::from_range(0, 9)?);
         if let Err(full) = starts.push(start) {
             return Err(AllocError::from(full).into());

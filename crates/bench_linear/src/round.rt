@@ -2,7 +2,7 @@
 ghost use Rattle.std.specs.Prelude.{◌≡◌, ◌≤◌, ◌<◌, ◌+◌, [], false, true, OnOk};
 ghost use Rattle.bench_linear.specs.Digits.{AreDigits, IsDigitSum, Extends, room_of};
 ghost use Rattle.dom_cells.specs.Box.{cell_of};
-ghost use Rattle.kind_linear.specs.Linear.{form_refuted};
+ghost use Rattle.kind_sum.specs.SumRelation.{sum_refuted};
 
 use crate::counts::Counts;
 use crate::digits::{WIDTH, digit};
@@ -25,10 +25,10 @@ pub(crate) fn go_round(
 ) -> Result<(), AllocError>
     requires number { number < 1000 }
     requires sum { IsDigitSum 1000 sum.now }
-    requires starts { AreDigits 1000 cells.old.starts }
+    requires starts { AreDigits 1000 cells.old.state.starts }
     requires room { 1000 ≤ cells.old.spare }
-    ensures starts { OnOk result (cells.new.starts ≡ cells.old.starts) }
-    ensures literals { OnOk result (cells.new.literals ≡ cells.old.literals) }
+    ensures starts { OnOk result (cells.new.state.starts ≡ cells.old.state.starts) }
+    ensures literals { OnOk result (cells.new.state.literals ≡ cells.old.state.literals) }
     ensures room { OnOk result (cells.new.spare ≡ cells.old.spare) }
 {
     let mark = cells.mark();
@@ -48,10 +48,10 @@ fn fix_all(
 ) -> Result<(), AllocError>
     requires number { number < 1000 }
     requires sum { IsDigitSum 1000 sum.now }
-    requires starts { AreDigits 1000 cells.old.starts }
+    requires starts { AreDigits 1000 cells.old.state.starts }
     requires room { 1000 ≤ cells.old.spare }
-    ensures starts { OnOk result (cells.new.starts ≡ cells.old.starts) }
-    ensures literals { OnOk result (Extends cells.old.literals cells.new.literals) }
+    ensures starts { OnOk result (cells.new.state.starts ≡ cells.old.state.starts) }
+    ensures literals { OnOk result (Extends cells.old.state.literals cells.new.state.literals) }
     ensures room { OnOk result (room_of cells.new ≡ room_of cells.old) }
 {
     for at in 0..WIDTH {
@@ -72,10 +72,10 @@ fn fix_all(
 /// Cuts the variable's cell down to one value, and tells whether that changed it.
 fn fix(cells: &mut Cells, at: u32, value: i64) -> bool
     requires at { at < 1000 }
-    requires starts { AreDigits 1000 cells.old.starts }
+    requires starts { AreDigits 1000 cells.old.state.starts }
     requires room { 0 < cells.old.spare }
-    ensures starts { cells.new.starts ≡ cells.old.starts }
-    ensures literals { Extends cells.old.literals cells.new.literals }
+    ensures starts { cells.new.state.starts ≡ cells.old.state.starts }
+    ensures literals { Extends cells.old.state.literals cells.new.state.literals }
     ensures spare { cells.old.spare ≤ cells.new.spare + 1 }
     ensures room { room_of cells.new ≡ room_of cells.old }
 {
@@ -91,8 +91,8 @@ fn fix(cells: &mut Cells, at: u32, value: i64) -> bool
 #[tactic(auto, using(crate::proofs::DigitLaws::digits_fit))]
 fn is_refuted(sum: &Linear, cells: &Cells) -> bool
     requires sum { IsDigitSum 1000 sum.now }
-    requires starts { AreDigits 1000 cells.now.starts }
-    ensures { result ≡ form_refuted sum.now (cell_of cells.now) }
+    requires starts { AreDigits 1000 cells.now.state.starts }
+    ensures { result ≡ sum_refuted sum.now (cell_of cells.now.state) }
 {
     let _width = cells.width();
     sum.refutes(cells)
@@ -102,8 +102,8 @@ fn is_refuted(sum: &Linear, cells: &Cells) -> bool
 #[tactic(auto, using(crate::proofs::DigitLaws::digits_fit))]
 fn ask(sum: &Linear, cells: &Cells, out: &mut Clause, counts: &mut Counts) -> Result<(), AllocError>
     requires sum { IsDigitSum 1000 sum.now }
-    requires starts { AreDigits 1000 cells.now.starts }
-    requires quiet { form_refuted sum.now (cell_of cells.now) ≡ false }
+    requires starts { AreDigits 1000 cells.now.state.starts }
+    requires quiet { sum_refuted sum.now (cell_of cells.now.state) ≡ false }
 {
     let _width = cells.width();
     let implied = sum.next(cells);
@@ -117,8 +117,8 @@ fn ask(sum: &Linear, cells: &Cells, out: &mut Clause, counts: &mut Counts) -> Re
 
 /// Whether each variable has its first and its last digit.
 pub(crate) fn is_whole(cells: &Cells) -> bool
-    requires { AreDigits 1000 cells.now.starts }
-    ensures { cells.now.literals ≡ [] → result ≡ true }
+    requires { AreDigits 1000 cells.now.state.starts }
+    ensures { cells.now.state.literals ≡ [] → result ≡ true }
 {
     for at in 0..WIDTH {
         if cells.lo(VarId(at)) != 0 || cells.hi(VarId(at)) != 9 {

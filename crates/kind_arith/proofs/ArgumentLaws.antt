@@ -1,21 +1,16 @@
 -- What holds of the variables of an argument holds of the variable that it is.
-use Rattle.std.proofs.Common.{◌≡◌, Bool, not, List, [], ◌∷◌, ℕ, ℤ, ◌<ℤ◌, true, ◌&&◌, int_lt, sym, ◌∙◌, ap, subst, arith, inl, inr}
-use Rattle.std.proofs.lemmas.Int.{ints}
+use Rattle.std.proofs.Common.{◌≡◌, not, List, ℕ, ℤ, sym, ◌∙◌, ap, subst}
 use Rattle.dom_core.specs.Assignment.{entry_at}
-use Rattle.dom_core.specs.Rises.{Rises}
 use Rattle.dom_core.specs.View.{movement_at}
 use Rattle.dom_core.specs.declared.arg.Arg.{Arg}
 use Rattle.dom_core.specs.declared.arg.Arg.TheVariants.{Var, Const}
 use Rattle.dom_core.specs.declared.var_id.VarId.{VarId}
 use Rattle.dom_core.specs.declared.view.Movement.{Movement}
-use Rattle.dom_core.proofs.ProductLaws.{lt_true}
-use Rattle.dom_core.proofs.RisesLaws.{among_cases}
-use Rattle.dom_core.proofs.TestLaws.{and_first, and_second}
 use Rattle.dom_cells.specs.declared.start.Start.{Start}
 use Rattle.kind_law.specs.Laws.{Each}
 use Rattle.kind_law.specs.Argument.{arg_vars, arg_value, arg_left, arg_movement}
-use Rattle.kind_arith.specs.Set.{set_has, set_meets, set_keeps}
-use Rattle.kind_arith.specs.SetLaws.{meets_point}
+use Rattle.kind_parts.specs.Set.{set_has, set_meets, set_keeps}
+use Rattle.kind_parts.proofs.SetLaws.{meets_point}
 use Rattle.kind_arith.specs.InSet.{Restriction, restriction_met, restriction_refuted, restriction_kept}
 
 pub each_var : (P : VarId → Type 0) (x : Arg) (u : VarId) → x ≡ Var u → Each P (arg_vars x) → P u
@@ -40,24 +35,3 @@ kept_var k view u is = ap (λ (x : Arg). set_keeps k.set (arg_movement view x).c
 pub kept_const : (k : Restriction) (view : List Movement) (c : ℤ) → k.arg ≡ Const c
     → set_keeps k.set (arg_movement view (Const c)).change (arg_movement view (Const c)).after ≡ restriction_kept k view
 kept_const k view c is = ap (λ (x : Arg). set_keeps k.set (arg_movement view x).change (arg_movement view x).after) (sym is)
-
--- ---- lists that are written out
-
--- each value is less than the next
-abbrev pub steps : List ℤ → Bool
-steps [] = true
-steps (x ∷ []) = true
-steps (x ∷ (y ∷ ys)) = int_lt x y && steps (y ∷ ys)
-
-pub rises_by_steps : (xs : List ℤ) → steps xs ≡ true → Rises xs
-rises_by_steps [] h = tt
-rises_by_steps (x ∷ []) h = ((λ y t. absurd (cc)), tt)
-rises_by_steps (x ∷ (y ∷ ys)) h =
-    let rest : Rises (y ∷ ys) = rises_by_steps (y ∷ ys) (and_second (int_lt x y) (steps (y ∷ ys)) h) in
-    let up : x <ℤ y = lt_true x y (and_first (int_lt x y) (steps (y ∷ ys)) h) in (
-      (λ z t. elim (among_cases z y ys t) [
-        | inl same ↦ omega (arith, ints)
-        | inr later ↦ (let above : y <ℤ z = rest.0 z later in omega (arith, ints))
-      ]),
-      rest,
-    )

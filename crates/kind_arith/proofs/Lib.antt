@@ -1,4 +1,3 @@
 mod ArgumentLaws
-mod CellLaws
-mod CoverLaws
-mod PlainLaws
+mod SharedLaws
+mod VisitLaws

@@ -6,7 +6,7 @@ use Rattle.dom_core.specs.declared.var_id.VarId.{VarId}
 use Rattle.dom_core.specs.declared.view.Movement.{Movement}
 use Rattle.dom_cells.specs.declared.start.Start.{Start}
 use Rattle.kind_law.specs.Argument.{arg_vars, arg_value, arg_left, arg_movement}
-use Rattle.kind_arith.specs.Set.{set_has, set_meets, set_keeps}
+use Rattle.kind_parts.specs.Set.{set_has, set_meets, set_keeps}
 
 -- an argument and the set in which it lies
 pub record Restriction : Type 0 where

@@ -1,18 +1,23 @@
 -- The laws of restrictions.
-use Rattle.std.proofs.Common.{◌≡◌, Bool, true, false, not, List, ℕ, ℤ, pos, ◌-ℤ◌, refl, ◌∙◌, ap, arith}
+use Rattle.std.proofs.Common.{◌≡◌, Bool, true, false, not, ◌||◌, List, [], ℕ, ℤ, pos, ◌-ℤ◌, int_le, refl, ◌∙◌, ap, arith}
+use Rattle.std.specs.Ordering.{int_eq}
+use Rattle.dom_core.specs.declared.set.Set.{Set}
+use Rattle.dom_core.specs.declared.set.Set.TheVariants.{Range, Values}
+use Rattle.dom_core.proofs.RisesLaws.{or_right, int_eq_same}
+use Rattle.dom_core.specs.View.{movement_at}
 use Rattle.std.proofs.lemmas.Int.{ints}
-use Rattle.dom_core.specs.Ends.{lies_in}
+use Rattle.dom_core.specs.Ends.{Ends, only, lies_in}
 use Rattle.dom_core.specs.declared.arg.Arg.{Arg}
 use Rattle.dom_core.specs.declared.arg.Arg.TheVariants.{Var, Const}
 use Rattle.dom_core.specs.declared.view.Movement.{Movement}
-use Rattle.dom_core.proofs.TestLaws.{not_true, not_both}
+use Rattle.dom_core.proofs.TestLaws.{not_true, not_both, and_first, and_second, and_both}
 use Rattle.dom_cells.specs.Cell.{has_of}
 use Rattle.dom_cells.specs.declared.start.Start.{Start}
 use Rattle.dom_cells.specs.declared.start.Start.TheVariants.{Span}
-use Rattle.kind_law.specs.Laws.{IsSmaller, point, Covers, FitsLaw, ShrinkLaw, FixedLaw, KeepLaw}
+use Rattle.kind_law.specs.Laws.{IsSmaller, point, Covers, AreAmong, FitsLaw, WidthLaw, ShrinkLaw, FixedLaw, KeepLaw, StillLaw, is_still, all_still}
 use Rattle.kind_law.specs.Argument.{arg_vars, arg_value, arg_left, arg_movement}
-use Rattle.kind_arith.specs.Set.{set_meets}
-use Rattle.kind_arith.specs.SetLaws.{Common, between, meets_common, common_meets, meets_point, set_stays}
+use Rattle.kind_parts.specs.Set.{set_meets, set_keeps}
+use Rattle.kind_parts.proofs.SetLaws.{Common, between, meets_common, common_meets, meets_point, set_stays}
 use Rattle.kind_arith.specs.InSet.{Restriction, restricted_vars, restriction_met, restriction_refuted, restriction_kept}
 
 not_false : (b : Bool) → (b ≡ true → ⊥) → not b ≡ true
@@ -21,6 +26,12 @@ not_false false h = refl
 
 pub restriction-fits : (k : Restriction) → FitsLaw (restricted_vars k) (λ s. Unit {0})
 restriction-fits k small large within fits = tt
+
+pub restriction-width : (k : Restriction) → WidthLaw (restricted_vars k) (λ s. 0) (λ s. Unit {0})
+restriction-width k s small size = tt
+
+pub restriction-measured : (k : Restriction) → AreAmong [] (restricted_vars k)
+restriction-measured k = tt
 
 -- a value left in a smaller box is left in a larger one
 left_within : (x : Arg) (small large : ℕ → Start) → IsSmaller (λ v. true) (arg_vars x) small large
@@ -55,3 +66,23 @@ pub restriction-keep : (k : Restriction) → KeepLaw (restricted_vars k) (restri
 restriction-keep k view a b covers kept met =
     set_stays k.set (arg_movement view k.arg).change (arg_movement view k.arg).after (arg_value a k.arg) (arg_value b k.arg)
     (value_after view a b k.arg covers) (value_change view a b k.arg covers) kept met
+
+-- ---- a view that doesn't move the argument
+
+zero_keeps : (set : Set) (after : Ends) → set_keeps set (only (pos 0)) after ≡ true
+zero_keeps (Range lo hi) after =
+    and_both (int_le after.hi hi || true) (int_le lo after.lo || true) (or_right (int_le after.hi hi) true refl) (or_right (int_le lo after.lo) true refl)
+zero_keeps (Values xs) after = refl
+
+zero_ends : (e : Ends) → is_still e ≡ true → e ≡ only (pos 0)
+zero_ends e h =
+    ap (λ (x : ℤ). let d : Ends = record { lo = x; hi = e.hi } in d) (int_eq_same e.lo (pos 0) (and_first (int_eq e.lo (pos 0)) (int_eq e.hi (pos 0)) h))
+    ∙ ap (λ (x : ℤ). let d : Ends = record { lo = pos 0; hi = x } in d) (int_eq_same e.hi (pos 0) (and_second (int_eq e.lo (pos 0)) (int_eq e.hi (pos 0)) h))
+
+still_change : (view : List Movement) (x : Arg) → all_still (arg_vars x) view ≡ true → (arg_movement view x).change ≡ only (pos 0)
+still_change view (Var u) h = zero_ends (movement_at view u.0).change (and_first (is_still (movement_at view u.0).change) true h)
+still_change view (Const c) h = refl
+
+pub restriction-still : (k : Restriction) → StillLaw (restricted_vars k) (restriction_kept k)
+restriction-still k view h =
+    ap (λ (e : Ends). set_keeps k.set e (arg_movement view k.arg).after) (still_change view k.arg h) ∙ zero_keeps k.set (arg_movement view k.arg).after

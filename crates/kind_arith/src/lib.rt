@@ -1,10 +1,9 @@
 //! Restrictions of single variables and functions of few of them.
 #![tactic(auto)]
 
-mod argument;
+mod ends;
 mod in_set;
-mod plain;
-mod sets;
+mod shared;
 #[cfg(test)]
 mod tests;
 

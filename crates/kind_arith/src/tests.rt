@@ -5,12 +5,14 @@ ghost use Rattle.dom_cells.specs.Box.{cell_of, start_at};
 ghost use Rattle.dom_cells.specs.Cell.{Suits};
 ghost use Rattle.kind_law.specs.Laws.{AllBelow};
 ghost use Rattle.kind_arith.specs.InSet.{restricted_vars, restriction_refuted};
-ghost use Rattle.kind_arith.specs.Set.{IsSorted};
+ghost use Rattle.kind_parts.specs.Set.{IsSorted};
 
 use super::*;
 use dom_cells::{Cells, Start};
-use dom_core::{Arg, Assignment, Clause, Domain, Interval, Literal, Rel, Set, Values, VarId, View};
-use kind_law::{Kind, Propagate};
+use dom_core::{
+    Arg, Assignment, Before, Clause, Domain, Interval, Literal, Rel, Set, Values, VarId, View,
+};
+use kind_law::{Kind, Propagate, Scratch, Visited};
 use std::test::Fail;
 
 fn shared<T: Send + Sync>(_: &T) {}
@@ -26,7 +28,7 @@ fn listed(rt: &HostRuntime, values: &[i64]) -> Result<Set, Fail>
 }
 
 /// The restriction of the first variable to the values 2, 5 and 8.
-#[tactic(auto, using(crate::proofs::ArgumentLaws::rises_by_steps))]
+#[tactic(auto, using(kind_parts::proofs::SetLaws::rises_by_steps))]
 fn three_apart(rt: &HostRuntime) -> Result<InSet, Fail>
     ensures { IfOk result (λ k. k.arg ≡ Arg.Var (record { 0 = 0 })) }
 {
@@ -47,6 +49,8 @@ fn a_restriction_holds_of_the_values_of_its_set(rt: HostRuntime) -> Result<(), F
     shared(&three);
     assert_eq!(rt; three.vars(), [X].as_slice());
     assert!(rt; three.is_inside(X));
+    let nowhere = View::for_vars(rt.alloc(), 0)?;
+    assert!(rt; !three.is_too_wide(&Before(&nowhere)));
     for (value, met) in [
         (1, false),
         (2, true),
@@ -99,7 +103,7 @@ fn a_range_within_a_hole_of_the_cell_is_refuted(rt: HostRuntime) -> Result<(), F
 }
 
 #[test]
-#[tactic(auto, using(crate::proofs::ArgumentLaws::rises_by_steps))]
+#[tactic(auto, using(kind_parts::proofs::SetLaws::rises_by_steps))]
 fn a_view_keeps_what_it_cannot_leave(rt: HostRuntime) -> Result<(), Fail> {
     let mut view = View::for_vars(rt.alloc(), 1)?;
     let three = three_apart(&rt)?;
@@ -120,7 +124,7 @@ fn a_view_keeps_what_it_cannot_leave(rt: HostRuntime) -> Result<(), Fail> {
 }
 
 #[test]
-#[tactic(auto, using(crate::proofs::ArgumentLaws::rises_by_steps))]
+#[tactic(auto, using(kind_parts::proofs::SetLaws::rises_by_steps))]
 fn a_list_without_a_gap_is_kept_as_a_range(rt: HostRuntime) -> Result<(), Fail> {
     let mut view = View::for_vars(rt.alloc(), 1)?;
     view.set(
@@ -140,8 +144,8 @@ fn a_list_without_a_gap_is_kept_as_a_range(rt: HostRuntime) -> Result<(), Fail> 
 
 /// One variable with the values from 1 to 9.
 fn nine_values(rt: &HostRuntime) -> Result<Cells, Fail>
-    ensures one { IfOk result (λ c. length c.starts ≡ 1) }
-    ensures list { IfOk result (λ c. Suits (start_at c.starts 0) Rel.Ne) }
+    ensures one { IfOk result (λ c. length c.state.starts ≡ 1) }
+    ensures list { IfOk result (λ c. Suits (start_at c.state.starts 0) Rel.Ne) }
 {
     let domain = Domain::from_range(1, 9).ok().ok_or("no domain")?;
     let starts = [Start::Values(domain)];
@@ -150,9 +154,9 @@ fn nine_values(rt: &HostRuntime) -> Result<Cells, Fail>
 
 /// Cuts the cell of the literal's variable.
 fn cut(cells: &mut Cells, literal: Literal) -> Result<(), Fail>
-    requires var { literal.var.0 < length cells.old.starts }
-    requires suits { Suits (start_at cells.old.starts literal.var.0) literal.rel }
-    ensures { OnOk result (cells.new.starts ≡ cells.old.starts) }
+    requires var { literal.var.0 < length cells.old.state.starts }
+    requires suits { Suits (start_at cells.old.state.starts literal.var.0) literal.rel }
+    ensures { OnOk result (cells.new.state.starts ≡ cells.old.state.starts) }
 {
     cells.reserve(1)?;
     let _what = cells.narrow(literal);
@@ -161,8 +165,8 @@ fn cut(cells: &mut Cells, literal: Literal) -> Result<(), Fail>
 
 /// The end that is implied, with its reason in `out`.
 fn explained(kind: &InSet, cells: &Cells, out: &mut Clause) -> Result<Option<Literal>, Fail>
-    requires below { AllBelow (length cells.now.starts) (restricted_vars kind.now) }
-    requires quiet { restriction_refuted kind.now (cell_of cells.now) ≡ false }
+    requires below { AllBelow (length cells.now.state.starts) (restricted_vars kind.now) }
+    requires quiet { restriction_refuted kind.now (cell_of cells.now.state) ≡ false }
 {
     let _width = cells.width();
     let implied = kind.next(cells);
@@ -202,5 +206,59 @@ fn a_reason_names_an_end_that_moved_and_a_value_that_is_gone(rt: HostRuntime) ->
     }
     kind.reason(&cells, None, &mut out)?;
     assert_eq!(rt; out.literals(), [low, end, hole].as_slice());
+    Ok(())
+}
+
+#[test]
+#[tactic(auto, using(kind_parts::proofs::SetLaws::rises_by_steps))]
+fn a_visit_tells_both_ends_at_once(rt: HostRuntime) -> Result<(), Fail> {
+    let mut scratch = Scratch::new(rt.alloc());
+    let mut ends = Clause::new(rt.alloc());
+    let cells = nine_values(&rt)?;
+    let three = three_apart(&rt)?;
+    let last = Visited::Ends { more: false };
+    assert_eq!(rt; three.visit(&cells, &mut scratch, &mut ends)?, last);
+    let both = [literal(Rel::Ge, 2), literal(Rel::Le, 8)];
+    assert_eq!(rt; ends.literals(), both.as_slice());
+    for (lo, hi, told) in [
+        (3, 7, [literal(Rel::Ge, 3), literal(Rel::Le, 7)].as_slice()),
+        (-4, 7, [literal(Rel::Le, 7)].as_slice()),
+        (3, 9, [literal(Rel::Ge, 3)].as_slice()),
+        (1, 9, [].as_slice()),
+    ] {
+        let kind = between(&rt, lo, hi)?;
+        assert_eq!(rt;
+            kind.visit(&cells, &mut scratch, &mut ends)?,
+            last,
+            "{lo}..{hi}"
+        );
+        assert_eq!(rt; ends.literals(), told, "{lo}..{hi}");
+    }
+    let kind = between(&rt, 10, 12)?;
+    assert_eq!(rt;
+        kind.visit(&cells, &mut scratch, &mut ends)?,
+        Visited::Refuted
+    );
+    assert!(rt; ends.literals().is_empty());
+    Ok(())
+}
+
+#[test]
+fn a_visit_of_a_constant_tells_no_end(rt: HostRuntime) -> Result<(), Fail> {
+    let mut scratch = Scratch::new(rt.alloc());
+    let mut ends = Clause::new(rt.alloc());
+    let cells = Cells::new(rt.alloc(), &[])?;
+    for (lo, hi, found) in [
+        (2, 4, Visited::Ends { more: false }),
+        (4, 9, Visited::Refuted),
+    ] {
+        let kind = InSet::new(rt.alloc(), Arg::Const(3), &Set::Range { lo, hi })?;
+        assert_eq!(rt;
+            kind.visit(&cells, &mut scratch, &mut ends)?,
+            found,
+            "3 in {lo}..{hi}"
+        );
+        assert!(rt; ends.literals().is_empty());
+    }
     Ok(())
 }

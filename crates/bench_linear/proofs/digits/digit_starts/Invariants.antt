@@ -5,9 +5,9 @@ use Rattle.bench_linear.proofs.digits.digit_starts.Given as goal
 
 abbrev pub invariant-loop-starts : goal.invariant-loop-starts
 invariant-loop-starts l = record {
-  within : length l.starts.items ≤ 1000;
+  within : length l.starts.items ≤ l.fn.width;
   each : All IsDigits l.starts.items;
 }
 
 abbrev pub decreases-loop-starts : goal.decreases-loop-starts
-decreases-loop-starts l = 1000 - length l.starts.items
+decreases-loop-starts l = l.fn.width - length l.starts.items

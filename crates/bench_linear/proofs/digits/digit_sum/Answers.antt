@@ -4,7 +4,7 @@ use Rattle.std.proofs.lemmas.List.{length-append}
 use Rattle.std.proofs.lemmas.List.Elements.{All-push}
 use Rattle.std.specs.List.{All}
 use Rattle.dom_core.specs.declared.arg.Arg.{Arg}
-use Rattle.kind_linear.specs.Linear.{Form}
+use Rattle.kind_sum.specs.SumRelation.{SumRelation}
 use Rattle.bench_linear.specs.Digits.{IsDigitSum}
 use Rattle.bench_linear.proofs.DigitLaws.{IsSlight, IsVarBelow, digit_sum_is}
 use Rattle.bench_linear.proofs.digits.digit_sum.Goals as goal
@@ -18,14 +18,14 @@ loop-at-preserved c =
       slight = subst (λ (cs : List ℤ). All IsSlight cs) (sym c.in_ok-push.ensures.items)
           (All-push IsSlight c.loop-at.coefs.items (to_z w64 (of_z w64 c.coefficient.result)) c.loop-at.invariant.slight
           (subst IsSlight (sym (to_z-of_z w64 c.coefficient.result fits)) c.coefficient.ensures));
-      vars = subst (λ (xs : List Arg). All (IsVarBelow 1000) xs) (sym c.in_ok-push-2.ensures.items)
-          (All-push (IsVarBelow 1000) c.loop-at.args.items _ c.loop-at.invariant.vars c.loop-at-test.true);
+      vars = subst (λ (xs : List Arg). All (IsVarBelow c.args.width) xs) (sym c.in_ok-push-2.ensures.items)
+          (All-push (IsVarBelow c.args.width) c.loop-at.args.items _ c.loop-at.invariant.vars c.loop-at-test.true);
     }
 
 pub returns : goal.returns
 returns c =
     let slight : All IsSlight c.as_slice.result.now = subst (λ (cs : List ℤ). All IsSlight cs) (sym c.as_slice.ensures.value) c.loop-at.invariant.slight in
-    let vars : All (IsVarBelow 1000) c.as_slice-2.result.now = subst (λ (xs : List Arg). All (IsVarBelow 1000) xs) (sym c.as_slice-2.ensures.value) c.loop-at.invariant.vars in
-    let few : length c.as_slice.result.now ≤ 1000 = omega (arith, ap length c.as_slice.ensures.value, c.loop-at.invariant.coefs, c.loop-at.auto.at-end) in
-    subst (λ (k : Form). IsDigitSum 1000 k) (sym c.in_ok-sum.ensures)
-    (digit_sum_is c.as_slice.result.now c.as_slice-2.result.now _ _ few slight vars)
+    let vars : All (IsVarBelow c.args.width) c.as_slice-2.result.now = subst (λ (xs : List Arg). All (IsVarBelow c.args.width) xs) (sym c.as_slice-2.ensures.value) c.loop-at.invariant.vars in
+    let few : length c.as_slice.result.now ≤ 1000 = omega (arith, ap length c.as_slice.ensures.value, c.loop-at.invariant.coefs, c.loop-at.auto.at-end, c.requires) in
+    subst (λ (k : SumRelation). IsDigitSum c.args.width k) (sym c.in_ok-sum.ensures)
+    (digit_sum_is c.args.width c.as_slice.result.now c.as_slice-2.result.now _ _ few slight vars)

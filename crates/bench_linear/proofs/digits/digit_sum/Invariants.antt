@@ -8,5 +8,5 @@ invariant-loop-at l = record {
   coefs : length l.coefs.items ≡ l.at;
   args : length l.args.items ≡ l.at;
   slight : All IsSlight l.coefs.items;
-  vars : All (IsVarBelow 1000) l.args.items;
+  vars : All (IsVarBelow l.fn.width) l.args.items;
 }

@@ -4,8 +4,8 @@ use Rattle.bench_linear.proofs.round.fix_all.Given as goal
 
 abbrev pub invariant-loop-at : goal.invariant-loop-at
 invariant-loop-at l = record {
-  starts : l.cells.starts ≡ l.fn.cells.starts;
-  literals : Extends l.fn.cells.literals l.cells.literals;
+  starts : l.cells.state.starts ≡ l.fn.cells.state.starts;
+  literals : Extends l.fn.cells.state.literals l.cells.state.literals;
   spare : 1000 ≤ l.cells.spare + l.at;
   room : room_of l.cells ≡ room_of l.fn.cells;
 }

@@ -7,7 +7,7 @@ use Rattle.kind_arith.proofs.tests.explained.Goals as goal
 
 pub reason-requires-clause-cause : goal.reason-requires-clause-cause
 reason-requires-clause-cause c =
-    let next : IsNext (restriction_refuted c.args.kind.now) (restricted_vars c.args.kind.now) (cell_of c.args.cells.now) (Some c.in-Some.literal) =
-    subst (IsNext (restriction_refuted c.args.kind.now) (restricted_vars c.args.kind.now) (cell_of c.args.cells.now)) c.in-Some.is c.next-implied.ensures in
-    (next_cause (restriction_refuted c.args.kind.now) (restricted_vars c.args.kind.now) c.args.cells.now c.in-Some.literal
+    let next : IsNext (restriction_refuted c.args.kind.now) (restricted_vars c.args.kind.now) (cell_of c.args.cells.now.state) (Some c.in-Some.literal) =
+    subst (IsNext (restriction_refuted c.args.kind.now) (restricted_vars c.args.kind.now) (cell_of c.args.cells.now.state)) c.in-Some.is c.next-implied.ensures in
+    (next_cause (restriction_refuted c.args.kind.now) (restricted_vars c.args.kind.now) c.args.cells.now.state c.in-Some.literal
     c.width-width.ensures.sound c.requires.below next).1

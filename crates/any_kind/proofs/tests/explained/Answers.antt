@@ -1,0 +1,20 @@
+use Rattle.std.proofs.Common.{subst, Some}
+use Rattle.dom_cells.specs.Box.{cell_of}
+use Rattle.kind_law.specs.Next.{IsNext}
+use Rattle.kind_law.proofs.ReasonLaws.{next_cause}
+use Rattle.any_kind.specs.Any.{any_vars, any_refuted}
+use Rattle.any_kind.proofs.tests.explained.Goals as goal
+
+pub reason-requires-clause-cause : goal.reason-requires-clause-cause
+reason-requires-clause-cause c =
+    let next : IsNext (any_refuted c.args.kind.now) (any_vars c.args.kind.now) (cell_of c.args.cells.now.state) (Some c.in-Some.literal) =
+    subst (IsNext (any_refuted c.args.kind.now) (any_vars c.args.kind.now) (cell_of c.args.cells.now.state)) c.in-Some.is c.next-implied.ensures in
+    (next_cause (any_refuted c.args.kind.now) (any_vars c.args.kind.now) c.args.cells.now.state c.in-Some.literal
+    c.width-width.ensures.sound c.requires.below next).1
+
+pub reason-requires-clause-var : goal.reason-requires-clause-var
+reason-requires-clause-var c =
+    let next : IsNext (any_refuted c.args.kind.now) (any_vars c.args.kind.now) (cell_of c.args.cells.now.state) (Some c.in-Some.literal) =
+    subst (IsNext (any_refuted c.args.kind.now) (any_vars c.args.kind.now) (cell_of c.args.cells.now.state)) c.in-Some.is c.next-implied.ensures in
+    (next_cause (any_refuted c.args.kind.now) (any_vars c.args.kind.now) c.args.cells.now.state c.in-Some.literal
+    c.width-width.ensures.sound c.requires.below next).0

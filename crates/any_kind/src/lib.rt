@@ -1,0 +1,8 @@
+//! Constraints of any kind.
+#![tactic(auto)]
+
+mod any;
+#[cfg(test)]
+mod tests;
+
+pub use any::AnyKind;
