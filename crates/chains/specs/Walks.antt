@@ -13,15 +13,18 @@ next_of End k = k
 next_of (To j) k = j
 next_of Nothing k = k
 
+-- the mark of a place whose chain ends there, or nowhere
 abbrev pub mark_of : Option ℕ → Mark
 mark_of None = Endless
 mark_of (Some e) = EndsAt e
 
+-- where the chain of a marked place ends
 abbrev pub end_of : Mark → Option ℕ
 end_of Unseen = None
 end_of Endless = None
 end_of (EndsAt e) = Some e
 
+-- the mark of this place: from what is no place no chain ends
 abbrev pub mark_at : List Mark → ℕ → Mark
 mark_at marks k = slice_index_or marks k Endless
 
@@ -36,6 +39,7 @@ IsRight links k Unseen = Unit {0}
 IsRight links k Endless = IsEnd links k None
 IsRight links k (EndsAt e) = Ends links k e
 
+-- every mark says the truth
 abbrev pub AreRight : List Link → List Mark → Type 0
 AreRight links marks = (k : ℕ) → IsRight links k (mark_at marks k)
 
@@ -47,6 +51,7 @@ IsOn links start count k = (i : ℕ) × (i < count) × (after links i start ≡ 
 abbrev pub AreRightBut : List Link → ℕ → ℕ → List Mark → Type 0
 AreRightBut links start count marks = (k : ℕ) → IsRight links k (mark_at marks k) ⊎ IsOn links start count k
 
+-- the first so many places of the chain are among so many
 abbrev pub StaysWithin : List Link → ℕ → ℕ → ℕ → Type 0
 StaysWithin links start count size = (i : ℕ) → i < count → after links i start < size
 
@@ -67,11 +72,13 @@ pub record IsWalked (links : List Link) (start : ℕ) (old new : List Mark) (wal
   pub within : StaysWithin links start walk.count (length new)
   pub right : AreRightBut links start walk.count new
 
+-- every mark says the truth, and none was taken back
 pub record IsSettled (links : List Link) (old new : List Mark) : Type 0 where
   pub size : length new ≡ length old
   pub seen : StaySeen old new
   pub right : AreRight links new
 
+-- likewise, and the chain from this place was followed
 pub record IsFollowed (links : List Link) (start : ℕ) (old new : List Mark) : Type 0 where
   pub size : length new ≡ length old
   pub seen : StaySeen old new

@@ -4,3 +4,4 @@ mod Places
 mod RankLaws
 mod RowLaws
 mod SearchLaws
+pub mod WalkLaws

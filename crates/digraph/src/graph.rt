@@ -11,7 +11,7 @@ use std::marker::Model;
 #[derive(Debug, Drop)]
 pub struct Digraph {
     starts: Vec<usize>,
-    targets: Vec<u32>,
+    targets: Vec<usize>,
 }
 
 impl Model for Digraph {
@@ -59,7 +59,7 @@ impl Digraph {
     }
 
     /// Adds a successor to the last node. It may be a node that is added later, or none, and then leads nowhere.
-    pub fn edge(&mut self, to: u32) -> Result<(), AllocError>
+    pub fn edge(&mut self, to: usize) -> Result<(), AllocError>
         requires { 0 < length self.old }
         ensures ok { OnOk result (GainsEdge self.old to self.new) }
         ensures err { OnErr result (self.new ≡ self.old) }
@@ -69,7 +69,7 @@ impl Digraph {
     }
 
     /// The node's successors in the order in which they were added.
-    pub fn successors(&self, node: usize) -> &[u32]
+    pub fn successors(&self, node: usize) -> &[usize]
         requires { node < length self.now }
         ensures { result.now ≡ slice_index_or self.now node [] }
     {
@@ -104,7 +104,7 @@ fn next_of(starts: &[usize], place: usize, end: usize) -> usize
     }
 }
 
-fn part(targets: &[u32], start: usize, end: usize) -> &[u32]
+fn part(targets: &[usize], start: usize, end: usize) -> &[usize]
     requires order { start ≤ end }
     requires within { end ≤ length targets.now }
     ensures { result.now ≡ take (end - start) (drop start targets.now) }

@@ -49,16 +49,16 @@ pub(crate) fn is_cleared(graph: &Digraph, ranks: &[usize], node: usize) -> bool
     rank < usize::MAX && all_at_least(ranks, rank + 1, graph.successors(node))
 }
 
-fn all_at_least(ranks: &[usize], least: usize, nodes: &[u32]) -> bool
+fn all_at_least(ranks: &[usize], least: usize, nodes: &[usize]) -> bool
     ensures { IsTrue result ↔ All (IsAtLeast ranks.now least) nodes.now }
 {
     nodes.iter().all(|node| is_at_least(ranks, least, *node))
 }
 
-fn is_at_least(ranks: &[usize], least: usize, node: u32) -> bool
+fn is_at_least(ranks: &[usize], least: usize, node: usize) -> bool
     ensures { IsTrue result ↔ IsAtLeast ranks.now least node }
 {
-    match ranks.get(node as usize) {
+    match ranks.get(node) {
         Some(rank) => least <= *rank,
         None => true,
     }

@@ -60,11 +60,11 @@ impl Search {
     }
 
     /// Meets these nodes, but for those met before.
-    pub(crate) fn meet_all(&mut self, nodes: &[u32]) -> Result<(), AllocError>
+    pub(crate) fn meet_all(&mut self, nodes: &[usize]) -> Result<(), AllocError>
         ensures { OnOk result (self.new ≡ met_with_all self.old nodes.now) }
     {
         for node in nodes {
-            self.meet(*node as usize)?;
+            self.meet(*node)?;
         }
         Ok(())
     }

@@ -5,7 +5,7 @@ use std::alloc::{AllocError, Global};
 fn shared<T: Send + Sync>(_: &T) {}
 
 // Adds a node with these successors.
-fn add(graph: &mut Digraph, row: &[u32]) -> Result<(), AllocError> {
+fn add(graph: &mut Digraph, row: &[usize]) -> Result<(), AllocError> {
     graph.node()?;
     for to in row {
         graph.edge(*to)?;
@@ -13,7 +13,7 @@ fn add(graph: &mut Digraph, row: &[u32]) -> Result<(), AllocError> {
     Ok(())
 }
 
-fn graph_of(alloc: Global, rows: &[&[u32]]) -> Result<Digraph, AllocError> {
+fn graph_of(alloc: Global, rows: &[&[usize]]) -> Result<Digraph, AllocError> {
     let mut graph = Digraph::new(alloc);
     for row in rows {
         add(&mut graph, *row)?;
@@ -22,7 +22,7 @@ fn graph_of(alloc: Global, rows: &[&[u32]]) -> Result<Digraph, AllocError> {
 }
 
 // A chain of so many nodes, which leads to a cycle, and behind it a cycle that leads to the chain.
-fn chain_between_cycles(alloc: Global, len: u32) -> Result<Digraph, AllocError> {
+fn chain_between_cycles(alloc: Global, len: usize) -> Result<Digraph, AllocError> {
     let mut graph = Digraph::new(alloc);
     for node in 0..len {
         add(&mut graph, &[node + 1])?;
@@ -47,7 +47,7 @@ fn no_nodes_have_no_cycle(rt: HostRuntime) {
 
 #[test]
 fn successors_stand_in_order(rt: HostRuntime) {
-    let rows: [&[u32]; 3] = [&[1, 7, 1], &[], &[0]];
+    let rows: [&[usize]; 3] = [&[1, 7, 1], &[], &[0]];
     let graph = graph_of(rt.alloc(), &rows).expect(&rt, "a graph");
     assert_eq!(rt; graph.len(), 3);
     for node in 0..3 {
@@ -57,7 +57,7 @@ fn successors_stand_in_order(rt: HostRuntime) {
 
 #[test]
 fn the_first_on_a_cycle_is_found(rt: HostRuntime) {
-    let cases: [(&[&[u32]], &[bool], Option<usize>); 9] = [
+    let cases: [(&[&[usize]], &[bool], Option<usize>); 9] = [
         // one node, without and with an edge to itself
         (&[&[]], &[true], None),
         (&[&[0]], &[true], Some(0)),

@@ -99,7 +99,7 @@ impl Walk {
                     edge: visit.edge.saturating_add(1),
                     ..visit
                 })?;
-                self.follow(visit.node, to as usize)
+                self.follow(visit.node, to)
             }
             None => self.leave(visit),
         }
@@ -150,7 +150,7 @@ impl Walk {
     }
 }
 
-fn next_of(graph: &Digraph, visit: Visit) -> Option<u32> {
+fn next_of(graph: &Digraph, visit: Visit) -> Option<usize> {
     if visit.node < graph.len() {
         graph.successors(visit.node).get(visit.edge).copied()
     } else {

@@ -17,6 +17,7 @@ pub record IsModest (z : ℤ) : Type 0 where
   pub low : neg_ℤ (pos 1000000) ≤ℤ z
   pub high : z ≤ℤ pos 1000000
 
+-- each of them is modest
 abbrev pub AreModest : List ℤ → Type 0
 AreModest zs = All IsModest zs
 
@@ -39,10 +40,12 @@ IsFit n (LinLe coefs vars bound) = AreTerms n coefs vars
 abbrev pub IsFitDeclared : Declared → Type 0
 IsFitDeclared (Range lo hi) = (lo ≤ℤ hi) × IsModest lo × IsModest hi × (count_of lo hi ≤ 4096)
 
+-- the goal is at one of so many variables
 abbrev pub IsFitGoal : ℕ → Goal → Type 0
 IsFitGoal n Satisfy = Unit {0}
 IsFitGoal n (Minimize x) = IsBelow n x
 
+-- what is printed is of so many variables
 abbrev pub IsFitOutput : ℕ → Output → Type 0
 IsFitOutput n (Scalar x) = IsBelow n x
 

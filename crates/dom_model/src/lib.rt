@@ -2,7 +2,6 @@
 #![tactic(auto)]
 
 mod builder;
-mod counted;
 mod form;
 mod goal;
 mod kind;
@@ -13,7 +12,6 @@ mod tests;
 mod variable;
 
 pub use builder::ModelBuilder;
-pub use counted::Counted;
 pub use form::{Declared, Form};
 pub use goal::Goal;
 pub use kind::AnyKind;

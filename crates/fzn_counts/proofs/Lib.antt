@@ -1,4 +1,4 @@
 mod Finds
-mod Firsts
+pub mod Firsts
 mod Named
-mod Sums
+pub mod Sums

@@ -5,6 +5,7 @@ use Rattle.std.specs.Option.{option_map}
 use Rattle.std.proofs.lemmas.Option.{slice_get-map}
 use Rattle.std.proofs.lemmas.Slice.Eq.{bytes_eq-Decides}
 use Rattle.fzn_counts.specs.Entries.{is_named, entries_where_declared, declared_entries, named_entries}
+use Rattle.fzn_scope.proofs.Places.{named_at, tail_different}
 use Rattle.fzn_scope.specs.Names.{name_of, names_of, AreDifferent, IsNamed, IsUndeclared}
 use Rattle.fzn_syntax.specs.declared.declaration.Declaration.{Declaration}
 
@@ -16,13 +17,6 @@ none_behind d ds n false is none further = further
 found_none : (ds : List Declaration) (n : List ℕ) → IsUndeclared ds n → find (is_named n) ds ≡ None
 found_none [] n none = refl
 found_none (d ∷ ds) n none = none_behind d ds n (is_named n d) refl none (found_none ds n (λ e h. none e (suc h.0, h.1, h.2)))
-
--- the name of a declaration stands at its place
-name_at : (ds : List Declaration) (n : List ℕ) (k : ℕ) (d : Declaration) → slice_get ds k ≡ Some d → name_of d ≡ n → slice_get (names_of ds) k ≡ Some n
-name_at ds n k d at is = slice_get-map name_of ds k ∙ ap (option_map name_of) at ∙ ap Some is
-
-apart_behind : (d : Declaration) (ds : List Declaration) → AreDifferent (names_of (d ∷ ds)) → AreDifferent (names_of ds)
-apart_behind d ds different i j n here there = let e : suc i ≡ suc j = different (suc i) (suc j) n here there in cc
 
 found_behind : (e : Declaration) (ds : List Declaration) (n : List ℕ) (k : ℕ) (d : Declaration) (b : Bool) → is_named n e ≡ b → AreDifferent (names_of (e ∷ ds))
     → slice_get (names_of ds) k ≡ Some n → find (is_named n) ds ≡ Some d → cond b (Some e) (find (is_named n) ds) ≡ Some d
@@ -39,7 +33,7 @@ found_at (e ∷ ds) n zero d different at is =
     let named : is_named n e ≡ true = (bytes_eq-Decides (name_of e) n).1 (ap name_of same ∙ is) in
     rw named (ap Some same)
 found_at (e ∷ ds) n (suc k) d different at is =
-    found_behind e ds n k d (is_named n e) refl different (name_at ds n k d at is) (found_at ds n k d (apart_behind e ds different) at is)
+    found_behind e ds n k d (is_named n e) refl different (named_at ds n k d at is) (found_at ds n k d (tail_different e ds different) at is)
 
 pub none_named : (ds : List Declaration) (n : List ℕ) → IsUndeclared ds n → named_entries ds n ≡ 0
 none_named ds n none = ap entries_where_declared (found_none ds n none)

@@ -23,9 +23,11 @@ declared_entries (declarations.Variable v) = 0
 declared_entries (declarations.ParameterArray a) = natural a.index.last
 declared_entries (declarations.VariableArray a) = natural a.index.last
 
+-- the declaration is of this name
 abbrev pub is_named : List ℕ → Declaration → Bool
 is_named n d = bytes_eq (name_of d) n
 
+-- those of a declaration, where there is one
 abbrev pub entries_where_declared : Option Declaration → ℕ
 entries_where_declared None = 0
 entries_where_declared (Some d) = declared_entries d
@@ -34,6 +36,7 @@ entries_where_declared (Some d) = declared_entries d
 abbrev pub named_entries : List Declaration → List ℕ → ℕ
 named_entries ds n = entries_where_declared (find (is_named n) ds)
 
+-- those of what an expression without a list names
 abbrev pub basic_entries : List Declaration → Basic → ℕ
 basic_entries ds basics.True = 0
 basic_entries ds basics.False = 0

@@ -1,8 +1,8 @@
 -- How many variables, constraints and entries of lists items have.
 use Rattle.std.specs.Prelude.{◌≡◌, ℕ, ◌<◌, ◌≤◌, Bool, true, false, nat_lt, List, [], ◌∷◌, ◌++◌, length, Option, Some, None, Result, Ok, Err}
 use Rattle.std.specs.List.{count_by, find, flat_map}
-use Rattle.dom_model.specs.declared.counted.Counted.{Counted}
-use Rattle.dom_model.specs.declared.counted.Counted.TheVariants.{Variables, Constraints, ArrayEntries, ArgumentEntries, Free}
+use Rattle.fzn_counts.specs.declared.counted.Counted.{Counted}
+use Rattle.fzn_counts.specs.declared.counted.Counted.TheVariants.{Variables, Constraints, ArrayEntries, ArgumentEntries, Free}
 use Rattle.fzn_counts.specs.declared.too_many.TooMany.{TooMany}
 use Rattle.fzn_syntax.specs.declared.constraint.Constraint.{Constraint}
 use Rattle.fzn_syntax.specs.declared.declaration.Declaration.{Declaration}
@@ -15,6 +15,7 @@ use Rattle.fzn_syntax.specs.declared.items.Items.{Items}
 abbrev pub limit : ℕ
 limit = 100000
 
+-- a variable is declared, and no array
 abbrev pub is_variable : Declaration → Bool
 is_variable (declarations.Parameter p) = false
 is_variable (declarations.Variable v) = true
@@ -30,6 +31,7 @@ abbrev pub lengths_of_expression : Expression → List ℕ
 lengths_of_expression (expressions.Basic b) = []
 lengths_of_expression (expressions.List bs) = length bs ∷ []
 
+-- the length of the list that is a value, where there is one
 abbrev pub lengths_of_value : Option Expression → List ℕ
 lengths_of_value None = []
 lengths_of_value (Some e) = lengths_of_expression e

@@ -1,9 +1,8 @@
 //! Counts of texts.
 use crate::{
-    TooMany, argument_entries, count_items, entries_are_bounded, first_unknown_constraint,
+    Counted, TooMany, argument_entries, count_items, entries_are_bounded, first_unknown_constraint,
 };
 use dom_core::Name;
-use dom_model::Counted;
 use fzn_lex::lex;
 use fzn_occurrences::scope_of;
 use fzn_syntax::{

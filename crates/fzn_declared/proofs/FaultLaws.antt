@@ -1,6 +1,6 @@
 -- The first declaration at fault.
 use Rattle.std.proofs.Common.{◌≡◌, ◌↔◌, ℕ, zero, suc, ◌<◌, ◌≤◌, Bool, true, List, [], ◌∷◌, length, get_or, map, slice_get, Option, None, Some, MatchOption, IsTrue, refl, sym, ap, ◌∙◌, subst, arith, inl, inr}
-use Rattle.std.proofs.lemmas.Option.{slice_get_within, slice_get-get_or}
+use Rattle.std.proofs.lemmas.Option.{slice_get_within, slice_get-get_or, same_Some}
 use Rattle.digraph.specs.Cycle.{HasNoneOnCycle, IsFirstOnCycle}
 use Rattle.fzn_syntax.specs.declared.declaration.Declaration.{Declaration}
 use Rattle.fzn_scope.specs.Names.{identifier_of}
@@ -49,16 +49,11 @@ pub fault_is_first : (ds : List Declaration) (first : Option ℕ) (k : ℕ) (b :
 fault_is_first ds first k b d f cyclic fine at here h =
     (k, (d, at, same_fault (IsTrue b) (DependsOnItself ds k) ds d f (λ t. first_depends ds first k cyclic (here.0 t)) h), fine)
 
-one_there : {X : Type 0} (xs : List X) (i : ℕ) (x y : X) → slice_get xs i ≡ Some x → slice_get xs i ≡ Some y → x ≡ y
-one_there [] i x y e f = absurd cc
-one_there (z ∷ zs) zero x y e f = cc
-one_there (z ∷ zs) (suc i) x y e f = one_there zs i x y e f
-
 -- nothing is wrong at this place
 pub place_is_fine : (ds : List Declaration) (first : Option ℕ) (k : ℕ) (b : Bool) (d : Declaration) → Cyclic ds first → ((j : ℕ) → j < k → IsFineAt ds j)
     → slice_get ds k ≡ Some d → IsTrue b ↔ (first ≡ Some k) → ((f : ItemFault) → IsFaultIf (IsTrue b) ds d f → ⊥) → IsFineAt ds k
 place_is_fine ds first k b d cyclic fine at here none f h =
-    let same : h.0 ≡ d = one_there ds k h.0 d h.1 at in
+    let same : h.0 ≡ d = same_Some h.0 d (sym h.1 ∙ at) in
     let fault : IsFaultIf (DependsOnItself ds k) ds d f = subst (λ e. IsFaultIf (DependsOnItself ds k) ds e f) same h.2 in
     none f (same_fault (DependsOnItself ds k) (IsTrue b) ds d f (λ depends. here.1 (depends_first ds first k cyclic fine depends)) fault)
 
@@ -78,9 +73,5 @@ one_first_fault ds f g h i =
     let early : h.0 < i.0 → ⊥ = λ lt. i.2 h.0 lt f h.1 in
     let same : i.0 ≡ h.0 = omega (arith, late, early) in
     let other : IsFaultAt ds h.0 g = subst (λ k. IsFaultAt ds k g) same i.1 in
-    let one : other.0 ≡ h.1.0 = one_there ds h.0 other.0 h.1.0 other.1 h.1.1 in
+    let one : other.0 ≡ h.1.0 = same_Some other.0 h.1.0 (sym other.1 ∙ h.1.1) in
     one_fault (DependsOnItself ds h.0) ds h.1.0 f g h.1.2 (subst (λ d. IsFaultIf (DependsOnItself ds h.0) ds d g) one other.2)
-
--- what is read at a place of a copy stands there
-pub item_at : {X : Type 0} (xs ys : List X) (k : ℕ) (x : X) → ys ≡ xs → k < length ys → x ≡ get_or ys k x → slice_get xs k ≡ Some x
-item_at xs ys k x same lt is = ap (λ l. slice_get l k) (sym same) ∙ slice_get-get_or ys k x lt ∙ ap Some (sym is)

@@ -2,3 +2,4 @@ mod EdgeLaws
 mod PlaceLaws
 mod FaultLaws
 mod MarkLaws
+pub mod LengthLaws

@@ -5,7 +5,7 @@ use Rattle.std.proofs.lemmas.Bool.{cases_Bool}
 use Rattle.std.proofs.lemmas.Slice.Eq.{bytes_eq-Decides}
 use Rattle.fzn_syntax.specs.declared.declaration.Declaration.{Declaration}
 use Rattle.fzn_scope.specs.Names.{name_of, names_of, AreDifferent, IsPlaced, IsUndeclared}
-use Rattle.fzn_scope.proofs.Places.{named_at}
+use Rattle.fzn_scope.proofs.Places.{named_at, tail_different}
 use Rattle.fzn_declared.specs.Places.{places_from, places_of}
 
 -- a name that is not declared has no place
@@ -22,9 +22,6 @@ later_are_others : (d : Declaration) (ds : List Declaration) (n : List ℕ) → 
 later_are_others d ds n different is other h =
     let same : 0 ≡ suc h.0 = different 0 (suc h.0) n (ap Some is) (named_at ds n h.0 other h.1 h.2) in
     absurd (omega (arith, same))
-
-tail_different : (d : Declaration) (ds : List Declaration) → AreDifferent (names_of (d ∷ ds)) → AreDifferent (names_of ds)
-tail_different d ds different i j n p q = let same : suc i ≡ suc j = different (suc i) (suc j) n p q in omega (arith, same)
 
 -- the place of a name that is declared once
 one_place : (k : ℕ) (ds : List Declaration) (n : List ℕ) (j : ℕ) → AreDifferent (names_of ds) → IsPlaced ds n j → places_from k ds n ≡ (k + j) ∷ []

@@ -32,6 +32,7 @@ abbrev pub named_in : List Declaration → Expression → List ℕ
 named_in ds (expressions.Basic b) = named_by ds b
 named_in ds (expressions.List bs) = flat_map (named_by ds) bs
 
+-- the same of a value, where there is one
 abbrev pub named_in_value : List Declaration → Option Expression → List ℕ
 named_in_value ds None = []
 named_in_value ds (Some e) = named_in ds e

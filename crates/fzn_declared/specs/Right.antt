@@ -11,8 +11,8 @@ use Rattle.fzn_syntax.specs.declared.expression.Basic.TheVariants as basics
 use Rattle.fzn_syntax.specs.declared.expression.Expression.{Expression}
 use Rattle.fzn_syntax.specs.declared.expression.Expression.TheVariants as expressions
 use Rattle.fzn_scope.specs.declared.base.Base.{Base}
-use Rattle.fzn_scope.specs.declared.typing.Reading.{Reading}
-use Rattle.fzn_scope.specs.declared.typing.Reading.TheVariants as readings
+use Rattle.fzn_scope.specs.declared.typing.Instantiation.{Instantiation}
+use Rattle.fzn_scope.specs.declared.typing.Instantiation.TheVariants as instantiations
 use Rattle.fzn_scope.specs.Bases.{base_of_parameter, base_of_variable}
 use Rattle.fzn_scope.specs.Names.{IsNamed}
 use Rattle.fzn_scope.specs.Typing.{IsScalar, AllFit}
@@ -23,7 +23,7 @@ abbrev pub IsIndex : IndexRange → Type 0
 IsIndex r = (r.first ≡ pos 1) × (pos 0 ≤ℤ r.last)
 
 -- a list of so many literals or names that fit
-abbrev pub AreEntries : List Declaration → Reading → Base → ℤ → Expression → Type 0
+abbrev pub AreEntries : List Declaration → Instantiation → Base → ℤ → Expression → Type 0
 AreEntries ds r base last (expressions.Basic b) = ⊥
 AreEntries ds r base last (expressions.List bs) = (last ≡ pos (length bs)) × AllFit ds r base bs
 
@@ -50,19 +50,19 @@ IsArray ds base last (basics.Set zs) = ⊥
 -- a list of so many constants, or the name of an array of so many parameters
 abbrev pub AreConstants : List Declaration → Base → ℤ → Expression → Type 0
 AreConstants ds base last (expressions.Basic b) = IsArray ds base last b
-AreConstants ds base last (expressions.List bs) = (last ≡ pos (length bs)) × AllFit ds readings.Constant base bs
+AreConstants ds base last (expressions.List bs) = (last ≡ pos (length bs)) × AllFit ds instantiations.Constant base bs
 
 -- there is no value, or one that fits
 abbrev pub IsRightValue : List Declaration → Variable → Type 0
-IsRightValue ds v = MatchOption v.value (Unit {0}) (IsScalar ds readings.Entry (base_of_variable v.element))
+IsRightValue ds v = MatchOption v.value (Unit {0}) (IsScalar ds instantiations.Entry (base_of_variable v.element))
 
 -- as many entries that fit as the last index says, and each mark for printing with index sets of as many places
 abbrev pub IsRightArray : List Declaration → VariableArray → Type 0
-IsRightArray ds a = IsIndex a.index × AreEntries ds readings.Entry (base_of_variable a.element) a.index.last a.value × All (IsRightMark a.index.last) a.annotations
+IsRightArray ds a = IsIndex a.index × AreEntries ds instantiations.Entry (base_of_variable a.element) a.index.last a.value × All (IsRightMark a.index.last) a.annotations
 
 -- the declaration is right; floats, set variables and cycles are not looked at
 abbrev pub IsRight : List Declaration → Declaration → Type 0
-IsRight ds (declarations.Parameter p) = IsScalar ds readings.Constant (base_of_parameter p.element) p.value
+IsRight ds (declarations.Parameter p) = IsScalar ds instantiations.Constant (base_of_parameter p.element) p.value
 IsRight ds (declarations.Variable v) = IsRightValue ds v
 IsRight ds (declarations.ParameterArray a) = IsIndex a.index × AreConstants ds (base_of_parameter a.entries.element) a.index.last a.entries.value
 IsRight ds (declarations.VariableArray a) = IsRightArray ds a

@@ -1,5 +1,5 @@
 //! Which declarations lead to which.
-ghost use Rattle.std.specs.Prelude.{◌≡◌, ◌<◌, [], ◌∷◌, length, flat_map, IfOk, OnOk};
+ghost use Rattle.std.specs.Prelude.{◌≡◌, ◌<◌, length, flat_map, IfOk, OnOk};
 ghost use Rattle.fzn_declared.specs.Places.{places_of, named_by, named_in, successors, graph_of};
 ghost use Rattle.fzn_declared.specs.Edges.{with_edges};
 
@@ -9,8 +9,7 @@ use fzn_scope::Scope;
 use fzn_syntax::{Basic, Declaration, Expression};
 use std::alloc::{AllocError, Global};
 
-/// Each declaration is a node, and leads to those that its value names. For a graph of more nodes
-/// than 32 bits can number there is no memory.
+/// Each declaration is a node, and leads to those that its value names.
 pub(crate) fn graph_of(alloc: Global, scope: &Scope<'_>) -> Result<Digraph, AllocError>
     ensures { IfOk result (λ g. g ≡ graph_of scope.now) }
 {
@@ -83,17 +82,9 @@ fn add_named(graph: &mut Digraph, scope: &Scope<'_>, name: &[u8]) -> Result<(), 
     let _ = scope.declarations();
     match scope.place(name) {
         None => Ok(()),
-        Some(place) => add_place(graph, place),
+        Some(place) => {
+            graph.edge(place)?;
+            Ok(())
+        }
     }
-}
-
-fn add_place(graph: &mut Digraph, place: usize) -> Result<(), AllocError>
-    requires { 0 < length graph.old }
-    ensures { OnOk result (graph.new ≡ with_edges graph.old (place ∷ [])) }
-{
-    if place > u32::MAX as usize {
-        return Err(AllocError);
-    }
-    graph.edge(place as u32)?;
-    Ok(())
 }

@@ -4,7 +4,9 @@ ghost use Rattle.fzn_declared.specs.Right.{IsIndex, AreEntries, IsParameters, Na
 
 use crate::marks::are_right_marks;
 use fzn_floats::found;
-use fzn_scope::{Base, Reading, Scope, are_all, base_of_parameter, base_of_variable, is_scalar};
+use fzn_scope::{
+    Base, Instantiation, Scope, are_all, base_of_parameter, base_of_variable, is_scalar,
+};
 use fzn_syntax::{Basic, Declaration, Expression, IndexRange, Variable, VariableArray};
 use std::alloc::{AllocError, Global};
 
@@ -22,17 +24,17 @@ fn is_count(last: i64, count: usize) -> bool
 
 fn are_entries(
     scope: &Scope<'_>,
-    reading: Reading,
+    instantiation: Instantiation,
     base: Base,
     last: i64,
     expression: &Expression,
 ) -> bool
-    ensures { IsTrue result ↔ AreEntries scope.now reading base last expression.now }
+    ensures { IsTrue result ↔ AreEntries scope.now instantiation base last expression.now }
 {
     match expression {
         Expression::Basic(_) => false,
         Expression::List(basics) => {
-            is_count(last, basics.len()) && are_all(scope, reading, base, basics.as_slice())
+            is_count(last, basics.len()) && are_all(scope, instantiation, base, basics.as_slice())
         }
     }
 }
@@ -79,7 +81,7 @@ fn are_constants(scope: &Scope<'_>, base: Base, last: i64, expression: &Expressi
         Expression::Basic(basic) => is_array(scope, base, last, basic),
         Expression::List(basics) => {
             is_count(last, basics.len())
-                && are_all(scope, Reading::Constant, base, basics.as_slice())
+                && are_all(scope, Instantiation::Constant, base, basics.as_slice())
         }
     }
 }
@@ -93,7 +95,7 @@ fn is_right_array(
 {
     let base = base_of_variable(&array.element);
     let last = array.index.last;
-    if is_index(array.index) && are_entries(scope, Reading::Entry, base, last, &array.value) {
+    if is_index(array.index) && are_entries(scope, Instantiation::Entry, base, last, &array.value) {
         are_right_marks(alloc, array)
     } else {
         Ok(false)
@@ -107,7 +109,7 @@ fn is_right_value(scope: &Scope<'_>, variable: &Variable) -> bool
         None => true,
         Some(value) => {
             let base = base_of_variable(&variable.element);
-            is_scalar(scope, Reading::Entry, base, value)
+            is_scalar(scope, Instantiation::Entry, base, value)
         }
     }
 }
@@ -123,7 +125,7 @@ pub fn is_right(
     match declaration {
         Declaration::Parameter(parameter) => {
             let base = base_of_parameter(&parameter.element);
-            Ok(is_scalar(scope, Reading::Constant, base, &parameter.value))
+            Ok(is_scalar(scope, Instantiation::Constant, base, &parameter.value))
         }
         Declaration::Variable(variable) => Ok(is_right_value(scope, variable)),
         Declaration::ParameterArray(array) => {

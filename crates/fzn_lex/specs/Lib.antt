@@ -1,5 +1,6 @@
 pub mod Classes
 pub mod Tokens
+pub mod Kept
 pub mod Cutting
 pub mod Scan
 pub mod Heading

@@ -1,3 +1,4 @@
 mod Ascii
 mod Chained
 mod Single
+mod Entries

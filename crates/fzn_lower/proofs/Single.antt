@@ -1,8 +1,9 @@
 -- Each step finds one thing at most, and so items have one answer.
 use Rattle.std.proofs.Common.{◌≡◌, ◌⊎◌, ℕ, zero, suc, ◌<◌, ◌≤◌, slice_get, List, Option, Some, None, Result, Ok, Err, inl, inr, refl, sym, ◌∙◌, ap, subst, arith}
 use Rattle.dom_model.specs.Problem.{Problem}
-use Rattle.dom_model.specs.declared.counted.Counted.{Counted}
-use Rattle.dom_model.specs.declared.counted.Counted.TheVariants.{Variables, Constraints, ArrayEntries, ArgumentEntries, Free}
+use Rattle.fzn_counts.specs.declared.counted.Counted.{Counted}
+use Rattle.fzn_counts.specs.declared.counted.Counted.TheVariants.{Variables, Constraints, ArrayEntries, ArgumentEntries, Free}
+use Rattle.fzn_counts.specs.Entries.{entries_of}
 use Rattle.fzn_counts.specs.Sizes.{IsCounted, IsFirstTooMany}
 use Rattle.fzn_counts.specs.Unlisted.{AreKnown, IsFirstUnknown}
 use Rattle.fzn_declared.specs.Faults as declared
@@ -12,7 +13,7 @@ use Rattle.fzn_declared.specs.declared.fault.ItemFault.TheVariants as items
 use Rattle.fzn_lower.proofs.Chained.{one_behind}
 use Rattle.fzn_lower.specs.Finding.{Step, FindsOne, ◌⟫◌}
 use Rattle.fzn_lower.specs.Lowered.{Lowers, HasOneAnswer}
-use Rattle.fzn_lower.specs.Steps.{FindsSize, FindsName, FindsUnknown, FindsDeclaration, FindsConstraint, FindsSolve, FindsEntries, FindsLast, FindsValued, FindsTyped, FindsScoped, FindsSized, FindsFault, entries_in}
+use Rattle.fzn_lower.specs.Steps.{FindsSize, FindsName, FindsUnknown, FindsDeclaration, FindsConstraint, FindsSolve, FindsEntries, FindsFault}
 use Rattle.fzn_lower.specs.declared.error.ModelError.{ModelError}
 use Rattle.fzn_lower.specs.declared.error.ModelError.TheVariants.{TooMany, NameTwice, UnknownName, UnknownConstraint, WrongArguments, FloatOrSet, NotBuilt, Memory}
 use Rattle.fzn_model.specs.Resolves.{Resolves, ResolvesOne}
@@ -227,9 +228,9 @@ one_goal t = looks_one (FindsSolve t) (IsSolveFine t.declarations t.solve) (IsGo
 -- ---- entries
 
 abbrev IsEntriesError : Items → ModelError → Type 0
-IsEntriesError t e = (what : Counted) × (n : ℕ) × (e ≡ TooMany what n) × (what ≡ ArgumentEntries) × (n ≡ entries_in t) × (2000000 < n)
+IsEntriesError t e = (what : Counted) × (n : ℕ) × (e ≡ TooMany what n) × (what ≡ ArgumentEntries) × (n ≡ entries_of t.declarations t.constraints) × (2000000 < n)
 
-entries_looks : (t : Items) → Looks (FindsEntries t) (entries_in t ≤ 2000000) (IsEntriesError t)
+entries_looks : (t : Items) → Looks (FindsEntries t) (entries_of t.declarations t.constraints ≤ 2000000) (IsEntriesError t)
 entries_looks t None h = inl (refl, h)
 entries_looks t (Some (TooMany what n)) h = inr (TooMany what n, refl, (what, n, refl, h.0, h.1, h.2))
 entries_looks t (Some _) h = absurd h
@@ -238,8 +239,8 @@ entries_apart : (k n : ℕ) → k ≤ 2000000 → n ≡ k → 2000000 < n → �
 entries_apart k n h is lt = absurd (omega (arith, h, is, lt))
 
 one_entries : (t : Items) → FindsOne (FindsEntries t)
-one_entries t = looks_one (FindsEntries t) (entries_in t ≤ 2000000) (IsEntriesError t) (entries_looks t)
-    (λ e a b. entries_apart (entries_in t) b.1 a b.4 b.5)
+one_entries t = looks_one (FindsEntries t) (entries_of t.declarations t.constraints ≤ 2000000) (IsEntriesError t) (entries_looks t)
+    (λ e a b. entries_apart (entries_of t.declarations t.constraints) b.1 a b.4 b.5)
     (λ d e b c. b.2 ∙ ap (λ w. TooMany w b.1) (b.3 ∙ sym c.3) ∙ ap (TooMany c.0) (b.4 ∙ sym c.4) ∙ sym c.2)
 
 -- ---- all of them
@@ -247,11 +248,11 @@ one_entries t = looks_one (FindsEntries t) (entries_in t ≤ 2000000) (IsEntries
 module _ (scopes : ScopesOne) (declarations : declared.HaveOneFirst) (posts : posted.HaveOneFirst) where
   one_fault : (t : Items) → FindsOne (FindsFault t)
   one_fault t =
-      one_behind (FindsSize t) (FindsSized t) (one_size t)
-      (one_behind (FindsName t) (FindsScoped t) (one_name t scopes)
-      (one_behind (FindsUnknown t) (FindsTyped t) (one_unknown t)
-      (one_behind (FindsDeclaration t) (FindsValued t) (one_declaration t declarations)
-      (one_behind (FindsConstraint t) (FindsLast t) (one_constraint t posts)
+      one_behind (FindsSize t) (FindsName t ⟫ FindsUnknown t ⟫ FindsDeclaration t ⟫ FindsConstraint t ⟫ FindsSolve t ⟫ FindsEntries t) (one_size t)
+      (one_behind (FindsName t) (FindsUnknown t ⟫ FindsDeclaration t ⟫ FindsConstraint t ⟫ FindsSolve t ⟫ FindsEntries t) (one_name t scopes)
+      (one_behind (FindsUnknown t) (FindsDeclaration t ⟫ FindsConstraint t ⟫ FindsSolve t ⟫ FindsEntries t) (one_unknown t)
+      (one_behind (FindsDeclaration t) (FindsConstraint t ⟫ FindsSolve t ⟫ FindsEntries t) (one_declaration t declarations)
+      (one_behind (FindsConstraint t) (FindsSolve t ⟫ FindsEntries t) (one_constraint t posts)
       (one_behind (FindsSolve t) (FindsEntries t) (one_goal t) (one_entries t))))))
 
   -- an answer but for want of memory: a model, that none is built, or a fault

@@ -6,7 +6,6 @@ use Rattle.fzn_lower.specs.Steps.{FindsFault}
 use Rattle.fzn_lower.specs.declared.error.ModelError.{ModelError}
 use Rattle.fzn_lower.specs.declared.error.ModelError.TheVariants.{TooMany, NameTwice, UnknownName, UnknownConstraint, WrongArguments, FloatOrSet, NotBuilt, Memory}
 use Rattle.fzn_model.specs.Resolves.{Resolves}
-pub use Rattle.fzn_print.specs.ReadBack.{AreOfText}
 use Rattle.fzn_syntax.specs.declared.items.Items.{Items}
 
 -- the step finds nothing and this is the model, or there is none that is built; or the step finds this fault

@@ -1,6 +1,6 @@
 -- What each step looks for, in the order of the steps.
-use Rattle.std.specs.Prelude.{◌≡◌, ℕ, ◌<◌, ◌≤◌, ◌-◌, ◌^◌, min, List, Option, Some, None, Result, Ok, Err}
-use Rattle.dom_model.specs.declared.counted.Counted.TheVariants.{Variables, Constraints, ArrayEntries, ArgumentEntries, Free}
+use Rattle.std.specs.Prelude.{◌≡◌, ℕ, ◌<◌, ◌≤◌, List, Option, Some, None, Result, Ok, Err}
+use Rattle.fzn_counts.specs.declared.counted.Counted.TheVariants.{Variables, Constraints, ArrayEntries, ArgumentEntries, Free}
 use Rattle.fzn_counts.specs.Entries.{entries_of}
 use Rattle.fzn_counts.specs.Sizes.{IsCounted, IsFirstTooMany}
 use Rattle.fzn_counts.specs.Unlisted.{AreKnown, IsFirstUnknown}
@@ -55,38 +55,14 @@ FindsSolve t (Some (WrongArguments at)) = IsSolveFault t.declarations t.solve (i
 FindsSolve t (Some (FloatOrSet at)) = IsSolveFault t.declarations t.solve (items.FloatOrSet at)
 FindsSolve t (Some _) = ⊥
 
--- the entries of all arrays that constraints take, as far as 64 bits hold their number
-abbrev pub entries_in : Items → ℕ
-entries_in t = min (entries_of t.declarations t.constraints) (2 ^ 64 - 1)
-
--- too many of them
+-- too many entries of all arrays that constraints take
 abbrev pub FindsEntries : Items → Step
-FindsEntries t None = entries_in t ≤ 2000000
-FindsEntries t (Some (TooMany what count)) = (what ≡ ArgumentEntries) × (count ≡ entries_in t) × (2000000 < count)
+FindsEntries t None = entries_of t.declarations t.constraints ≤ 2000000
+FindsEntries t (Some (TooMany what count)) = (what ≡ ArgumentEntries) × (count ≡ entries_of t.declarations t.constraints) × (2000000 < count)
 FindsEntries t (Some _) = ⊥
 
 -- ---- in their order
 
--- the goal, and then the entries
-abbrev pub FindsLast : Items → Step
-FindsLast t = FindsSolve t ⟫ FindsEntries t
-
--- what is looked for once the declarations are right
-abbrev pub FindsValued : Items → Step
-FindsValued t = FindsConstraint t ⟫ FindsLast t
-
--- what is looked for once all names are known
-abbrev pub FindsTyped : Items → Step
-FindsTyped t = FindsDeclaration t ⟫ FindsValued t
-
--- what is looked for once the declared names are numbered
-abbrev pub FindsScoped : Items → Step
-FindsScoped t = FindsUnknown t ⟫ FindsTyped t
-
--- what is looked for once nothing is too many
-abbrev pub FindsSized : Items → Step
-FindsSized t = FindsName t ⟫ FindsScoped t
-
--- all of it
+-- sizes, names, unknown constraints, declarations, constraints, the goal and then entries
 abbrev pub FindsFault : Items → Step
-FindsFault t = FindsSize t ⟫ FindsSized t
+FindsFault t = FindsSize t ⟫ FindsName t ⟫ FindsUnknown t ⟫ FindsDeclaration t ⟫ FindsConstraint t ⟫ FindsSolve t ⟫ FindsEntries t

@@ -1,5 +1,5 @@
 //! The first fault of items.
-use dom_model::Counted;
+use fzn_counts::Counted;
 use fzn_model::ResolveError;
 use fzn_names::NameError;
 use std::alloc::{AllocError, AllocFailed};

@@ -1,7 +1,9 @@
 //! From items to their model.
 ghost use Rattle.std.specs.Prelude.{◌≡◌, None};
-ghost use Rattle.fzn_lower.specs.Lowered.{AreOfText, HasOneAnswer, IsLowered, Lowers};
-ghost use Rattle.fzn_lower.specs.Steps.{FindsSized, FindsScoped, FindsTyped, FindsValued};
+ghost use Rattle.fzn_lower.specs.Lowered.{HasOneAnswer, IsLowered, Lowers};
+ghost use Rattle.fzn_syntax.specs.Texts.{AreOfText};
+ghost use Rattle.fzn_lower.specs.Finding.{◌⟫◌};
+ghost use Rattle.fzn_lower.specs.Steps.{FindsSize, FindsName, FindsUnknown, FindsDeclaration, FindsConstraint, FindsSolve, FindsEntries};
 
 use crate::error::ModelError;
 use crate::steps::{check_declarations, check_names, check_sizes, check_valued};
@@ -11,7 +13,7 @@ use fzn_names::NameError;
 use fzn_occurrences::scope_of;
 use fzn_scope::Scope;
 use fzn_syntax::Items;
-use fzn_values::Values;
+use fzn_values::Constants;
 use std::alloc::Global;
 
 /// Items have one answer, want of memory aside: so each fault comes exactly where it should, and is
@@ -35,8 +37,9 @@ pub fn lower(alloc: Global, items: &Items) -> Result<Model, ModelError>
 }
 
 fn lower_sized(alloc: Global, items: &Items) -> Result<Model, ModelError>
-    requires { AreOfText items.now }
-    ensures { Lowers (FindsSized items.now) items.now result }
+    requires text { AreOfText items.now }
+    requires sized { FindsSize items.now None }
+    ensures { let t = items.now in Lowers (FindsName t ⟫ FindsUnknown t ⟫ FindsDeclaration t ⟫ FindsConstraint t ⟫ FindsSolve t ⟫ FindsEntries t) t result }
 {
     match scope_of(alloc, items) {
         Ok(scope) => lower_scoped(alloc, &scope, items),
@@ -49,7 +52,9 @@ fn lower_sized(alloc: Global, items: &Items) -> Result<Model, ModelError>
 fn lower_scoped(alloc: Global, scope: &Scope<'_>, items: &Items) -> Result<Model, ModelError>
     requires same { scope.now ≡ items.now.declarations }
     requires text { AreOfText items.now }
-    ensures { Lowers (FindsScoped items.now) items.now result }
+    requires sized { FindsSize items.now None }
+    requires named { FindsName items.now None }
+    ensures { let t = items.now in Lowers (FindsUnknown t ⟫ FindsDeclaration t ⟫ FindsConstraint t ⟫ FindsSolve t ⟫ FindsEntries t) t result }
 {
     check_names(items)?;
     lower_named(alloc, scope, items)
@@ -58,7 +63,9 @@ fn lower_scoped(alloc: Global, scope: &Scope<'_>, items: &Items) -> Result<Model
 fn lower_named(alloc: Global, scope: &Scope<'_>, items: &Items) -> Result<Model, ModelError>
     requires same { scope.now ≡ items.now.declarations }
     requires text { AreOfText items.now }
-    ensures { Lowers (FindsTyped items.now) items.now result }
+    requires sized { FindsSize items.now None }
+    requires named { FindsName items.now None }
+    ensures { let t = items.now in Lowers (FindsDeclaration t ⟫ FindsConstraint t ⟫ FindsSolve t ⟫ FindsEntries t) t result }
 {
     check_declarations(alloc, scope, items)?;
     lower_typed(alloc, scope, items)
@@ -67,19 +74,22 @@ fn lower_named(alloc: Global, scope: &Scope<'_>, items: &Items) -> Result<Model,
 fn lower_typed(alloc: Global, scope: &Scope<'_>, items: &Items) -> Result<Model, ModelError>
     requires same { scope.now ≡ items.now.declarations }
     requires text { AreOfText items.now }
-    ensures { Lowers (FindsValued items.now) items.now result }
+    requires sized { FindsSize items.now None }
+    requires named { FindsName items.now None }
+    requires typed { FindsDeclaration items.now None }
+    ensures { let t = items.now in Lowers (FindsConstraint t ⟫ FindsSolve t ⟫ FindsEntries t) t result }
 {
-    let values = Values::new(alloc, scope)?;
+    let values = Constants::new(alloc, scope)?;
     check_valued(alloc, &values, items)?;
     lower_fine(alloc, &values, items)
 }
 
 // The model of items without a fault.
-fn lower_fine(alloc: Global, values: &Values<'_>, items: &Items) -> Result<Model, ModelError>
+fn lower_fine(alloc: Global, values: &Constants<'_>, items: &Items) -> Result<Model, ModelError>
     requires same { values.now ≡ items.now.declarations }
     requires text { AreOfText items.now }
-    requires fine { FindsValued items.now None }
-    ensures { Lowers (FindsValued items.now) items.now result }
+    requires fine { let t = items.now in (FindsConstraint t ⟫ FindsSolve t ⟫ FindsEntries t) None }
+    ensures { let t = items.now in Lowers (FindsConstraint t ⟫ FindsSolve t ⟫ FindsEntries t) t result }
 {
     match model_of(alloc, values, items) {
         Ok(model) => Ok(model),

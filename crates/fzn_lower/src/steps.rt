@@ -1,16 +1,16 @@
 //! The steps that look for faults.
-ghost use Rattle.std.specs.Prelude.{◌≡◌};
-ghost use Rattle.fzn_lower.specs.Finding.{Finds};
-ghost use Rattle.fzn_lower.specs.Steps.{FindsSize, FindsUnknown, FindsDeclaration, FindsConstraint, FindsSolve, FindsEntries, FindsLast, FindsValued};
+ghost use Rattle.std.specs.Prelude.{◌≡◌, ◌<◌, ◌^◌, None};
+ghost use Rattle.fzn_counts.specs.Entries.{entries_of};
+ghost use Rattle.fzn_lower.specs.Finding.{Finds, ◌⟫◌};
+ghost use Rattle.fzn_lower.specs.Steps.{FindsSize, FindsName, FindsUnknown, FindsDeclaration, FindsConstraint, FindsSolve, FindsEntries};
 
 use crate::error::ModelError;
-use dom_model::Counted;
-use fzn_counts::{argument_entries, count_items, first_unknown_constraint};
+use fzn_counts::{Counted, argument_entries, count_items, first_unknown_constraint};
 use fzn_declared::{ItemFault, solve_fault};
 use fzn_posted::ConstraintFault;
 use fzn_scope::Scope;
 use fzn_syntax::Items;
-use fzn_values::Values;
+use fzn_values::Constants;
 use std::alloc::Global;
 
 /// The most entries of all arrays that constraints take.
@@ -55,17 +55,20 @@ pub(crate) fn check_declarations(
 /// What is looked for once the declarations are right.
 pub(crate) fn check_valued(
     alloc: Global,
-    values: &Values<'_>,
+    values: &Constants<'_>,
     items: &Items,
 ) -> Result<(), ModelError>
-    requires { values.now ≡ items.now.declarations }
-    ensures { Finds (FindsValued items.now) result }
+    requires same { values.now ≡ items.now.declarations }
+    requires sized { FindsSize items.now None }
+    requires named { FindsName items.now None }
+    requires typed { FindsDeclaration items.now None }
+    ensures { let t = items.now in Finds (FindsConstraint t ⟫ FindsSolve t ⟫ FindsEntries t) result }
 {
     check_constraints(alloc, values, items)?;
     check_last(values.scope(), items)
 }
 
-fn check_constraints(alloc: Global, values: &Values<'_>, items: &Items) -> Result<(), ModelError>
+fn check_constraints(alloc: Global, values: &Constants<'_>, items: &Items) -> Result<(), ModelError>
     requires { values.now ≡ items.now.declarations }
     ensures { Finds (FindsConstraint items.now) result }
 {
@@ -77,8 +80,9 @@ fn check_constraints(alloc: Global, values: &Values<'_>, items: &Items) -> Resul
 }
 
 fn check_last(scope: &Scope<'_>, items: &Items) -> Result<(), ModelError>
-    requires { scope.now ≡ items.now.declarations }
-    ensures { Finds (FindsLast items.now) result }
+    requires same { scope.now ≡ items.now.declarations }
+    requires few { entries_of items.now.declarations items.now.constraints < 2 ^ 64 }
+    ensures { let t = items.now in Finds (FindsSolve t ⟫ FindsEntries t) result }
 {
     check_solve(scope, items)?;
     check_entries(scope, items)
@@ -96,7 +100,8 @@ fn check_solve(scope: &Scope<'_>, items: &Items) -> Result<(), ModelError>
 }
 
 fn check_entries(scope: &Scope<'_>, items: &Items) -> Result<(), ModelError>
-    requires { scope.now ≡ items.now.declarations }
+    requires same { scope.now ≡ items.now.declarations }
+    requires few { entries_of items.now.declarations items.now.constraints < 2 ^ 64 }
     ensures { Finds (FindsEntries items.now) result }
 {
     let count = argument_entries(scope, items.constraints.as_slice());

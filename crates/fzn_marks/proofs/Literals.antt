@@ -14,7 +14,7 @@ use Rattle.fzn_syntax.specs.Words.{code, kind_by, is, int_of}
 use Rattle.fzn_syntax.specs.Grammar.{Sign, IsInt}
 use Rattle.fzn_syntax.specs.Reading.{sign_at, int_at}
 use Rattle.fzn_syntax.proofs.Choices.{sure_choice_reads}
-use Rattle.fzn_syntax.proofs.Firsts.{sign_reads, int_reads, leads, sign_first, front_first}
+use Rattle.fzn_syntax.proofs.Firsts.{sign_reads, int_reads, leads, sign_first, front_first, comma_starts}
 use Rattle.fzn_marks.specs.declared.index_set.IndexSet.{IndexSet}
 use Rattle.fzn_marks.specs.declared.literal.SetLiteral.{SetLiteral}
 use Rattle.fzn_marks.specs.declared.literal.SetLiteral.TheVariants as literals
@@ -30,9 +30,6 @@ int_code test b passes _ text y e = absurd cc
 
 int_first : (test : ℕ → Bool) (b : Bool) → test 3 ≡ b → (z : ℤ) (used rest : List Word) → IsInt z used → begins (leads test) (used ++ rest) ≡ b
 int_first test b passes z used rest d = rw d.2 (int_code test b passes d.0.what d.0.text z d.1)
-
-comma_starts : (used rest : List Word) → Sign kinds.Comma used → begins (is kinds.Comma) (used ++ rest) ≡ true
-comma_starts used rest d = sign_first (λ n. n == 10) true kinds.Comma refl used rest d
 
 -- ---- ranges
 

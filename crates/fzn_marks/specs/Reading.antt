@@ -9,30 +9,39 @@ use Rattle.fzn_marks.specs.declared.index_set.IndexSet.{IndexSet}
 use Rattle.fzn_marks.specs.declared.literal.SetLiteral.{SetLiteral}
 use Rattle.fzn_marks.specs.declared.literal.SetLiteral.TheVariants as literals
 
+-- reads Int '..' Int
 unfoldable pub range_at : List Word → Answer Word IndexSet
 range_at = made (λ p. record { lo = p.0; hi = p.1.1 }) (pair int_at (pair (sign_at kinds.DotDot) int_at))
 
+-- reads ',' Int
 abbrev pub more_ints_at : List Word → Answer Word ℤ
 more_ints_at = behind (sign_at kinds.Comma) int_at
 
+-- reads Int {',' Int}*
 unfoldable pub ints_at : List Word → Answer Word (List ℤ)
 ints_at = listed (is kinds.Comma) (sign_at kinds.Comma) int_at
 
+-- reads [Int {',' Int}*]
 unfoldable pub some_ints_at : List Word → Answer Word (List ℤ)
 some_ints_at = either (is kinds.Int) ints_at (made (λ _. []) nothing)
 
+-- reads '{' [Int {',' Int}*] '}'
 unfoldable pub set_at : List Word → Answer Word (List ℤ)
 set_at = made (λ p. p.1.0) (pair (sign_at kinds.LeftBrace) (pair some_ints_at (sign_at kinds.RightBrace)))
 
+-- reads a set or a range of integers
 unfoldable pub literal_at : List Word → Answer Word SetLiteral
 literal_at = either (is kinds.LeftBrace) (made (λ ns. literals.Set ns) set_at) (made (λ s. literals.Range s) range_at)
 
+-- reads one behind a comma
 abbrev pub more_literals_at : List Word → Answer Word SetLiteral
 more_literals_at = behind (sign_at kinds.Comma) literal_at
 
+-- reads one or more with commas between them
 unfoldable pub literals_at : List Word → Answer Word (List SetLiteral)
 literals_at = listed (is kinds.Comma) (sign_at kinds.Comma) literal_at
 
+-- reads such a list in brackets and parentheses
 unfoldable pub argument_at : List Word → Answer Word (List SetLiteral)
 argument_at =
     made (λ p. p.1.1.0)

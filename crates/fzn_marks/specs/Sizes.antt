@@ -16,8 +16,10 @@ abbrev pub product_of : List IndexSet → ℕ
 product_of [] = 1
 product_of (s ∷ ss) = size_of s * product_of ss
 
+-- no integer is in the set
 abbrev pub IsEmpty : IndexSet → Type 0
 IsEmpty s = size_of s ≡ 0
 
+-- some integer is in the set
 abbrev pub IsFilled : IndexSet → Type 0
 IsFilled s = 0 < size_of s

@@ -36,6 +36,7 @@ range_of_element elements.Float = declared.Range (pos 0) (pos 0)
 range_of_element (elements.Range b) = declared.Range (integer_of b.lower) (integer_of b.upper)
 range_of_element (elements.Set ns) = declared.Range (pos 0) (pos 0)
 
+-- the range of a variable of this type; what is no range gives one that is not used
 abbrev pub range_of : VariableType → Declared
 range_of types.Bool = declared.Range (pos 0) (pos 0)
 range_of (types.Plain e) = range_of_element e
@@ -48,6 +49,7 @@ is_range_element elements.Float = false
 is_range_element (elements.Range b) = is_integer b.lower && is_integer b.upper
 is_range_element (elements.Set ns) = false
 
+-- the type is a range of integers
 abbrev pub is_range : VariableType → Bool
 is_range types.Bool = false
 is_range (types.Plain e) = is_range_element e
@@ -67,6 +69,7 @@ IsRangeOf t r = (is_range t ≡ true) × (range_of t ≡ declared.Range r.0 r.1)
 abbrev pub IsBuiltRange : syntax.Variable → ℤ × ℤ → Type 0
 IsBuiltRange v r = IsBuiltVariable v × (range_of v.element ≡ declared.Range r.0 r.1)
 
+-- the variable that is declared
 abbrev pub variable_of : syntax.Variable → model.Variable
 variable_of v = record { name = v.name.name; form = forms.Int; declared = range_of v.element }
 
@@ -87,6 +90,7 @@ IsBuilt (Variable v) = IsBuiltVariable v
 IsBuilt (ParameterArray a) = Unit {0}
 IsBuilt (VariableArray a) = list_any (is_named (codes "output_array")) a.annotations ≡ false
 
+-- the variable that a declaration adds to the model, if it does
 abbrev pub variables_by : Declaration → List model.Variable
 variables_by (Parameter p) = []
 variables_by (Variable v) = variable_of v ∷ []
@@ -106,6 +110,7 @@ abbrev pub mark_of : Bool → ℕ → List Output
 mark_of true i = Scalar (record { 0 = i }) ∷ []
 mark_of false i = []
 
+-- what a declaration adds to the output, where it is of the variable at this place
 abbrev pub marks_by : Declaration → ℕ → List Output
 marks_by (Parameter p) i = []
 marks_by (Variable v) i = mark_of (is_marked v) i

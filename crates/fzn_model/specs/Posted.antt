@@ -62,6 +62,7 @@ pub record IsLinear (ds : List Declaration) (first second third : Expression) (c
   pub constant : IsBound ds third bound
   pub equal : length coefs ≡ length vars
 
+-- the kind is the linear constraint of these arguments
 abbrev pub IsLinearKind : List Declaration → Expression → Expression → Expression → AnyKind → Type 0
 IsLinearKind ds first second third (LinLe coefs vars bound) = IsLinear ds first second third coefs vars bound
 

@@ -10,13 +10,13 @@ use crate::terms::{bound_of, coefficients_of, vars_of};
 use dom_core::{Values as Integers, Vars};
 use dom_model::{AnyKind, ModelBuilder};
 use fzn_syntax::{Constraint, Expression};
-use fzn_values::{Values, one_integer, one_list};
+use fzn_values::{Constants, one_integer, one_list};
 use std::alloc::Global;
 
 /// Posts the constraints, in their order.
 pub(crate) fn post_all(
     alloc: Global,
-    values: &Values<'_>,
+    values: &Constants<'_>,
     numbers: &[u32],
     builder: &mut ModelBuilder,
     constraints: &[Constraint],
@@ -40,7 +40,7 @@ fn is_at_most(name: &[u8]) -> bool
 
 fn kind_of(
     alloc: Global,
-    values: &Values<'_>,
+    values: &Constants<'_>,
     numbers: &[u32],
     constraint: &Constraint,
 ) -> Result<AnyKind, ResolveError>
@@ -58,7 +58,7 @@ fn kind_of(
 
 fn linear_of(
     alloc: Global,
-    values: &Values<'_>,
+    values: &Constants<'_>,
     numbers: &[u32],
     first: &Expression,
     second: &Expression,

@@ -13,7 +13,7 @@ use crate::variables::declare_all;
 use dom_model::{Goal, Model, ModelBuilder};
 use fzn_scope::Scope;
 use fzn_syntax::{Goal as Asked, Items};
-use fzn_values::Values;
+use fzn_values::Constants;
 use std::alloc::Global;
 
 /// Items whose names are different stand for one model at most. The call does nothing.
@@ -25,7 +25,7 @@ pub fn one_model()
 }
 
 /// The model of items, whose declarations have these values.
-pub fn model_of(alloc: Global, values: &Values<'_>, items: &Items) -> Result<Model, ResolveError>
+pub fn model_of(alloc: Global, values: &Constants<'_>, items: &Items) -> Result<Model, ResolveError>
     requires same { values.now ≡ items.now.declarations }
     requires ascii { All IsAsciiNamed items.now.declarations }
     ensures { Answers (Resolves items.now) result }

@@ -10,7 +10,7 @@ use crate::error::ResolveError;
 use crate::numbers::variable_named;
 use dom_core::{Values as Integers, VarId, Vars};
 use fzn_syntax::{Basic, Expression};
-use fzn_values::{Values, one_integer, one_list};
+use fzn_values::{Constants, one_integer, one_list};
 use std::alloc::Global;
 
 fn is_modest(value: i64) -> bool
@@ -37,7 +37,7 @@ fn are_fit(integers: &[i64]) -> bool
 /// One to a thousand small integers.
 pub(crate) fn coefficients_of(
     alloc: Global,
-    values: &Values<'_>,
+    values: &Constants<'_>,
     expression: &Expression,
 ) -> Result<Integers, ResolveError>
     ensures { Answers (AreCoefficients values.now expression.now) result }
@@ -54,7 +54,7 @@ pub(crate) fn coefficients_of(
     }
 }
 
-fn small_int_of(values: &Values<'_>, basic: &Basic) -> Result<i64, ResolveError>
+fn small_int_of(values: &Constants<'_>, basic: &Basic) -> Result<i64, ResolveError>
     ensures { Answers (IsSmallInt values.now basic.now) result }
 {
     one_integer();
@@ -72,7 +72,7 @@ fn small_int_of(values: &Values<'_>, basic: &Basic) -> Result<i64, ResolveError>
 }
 
 /// A small integer.
-pub(crate) fn bound_of(values: &Values<'_>, expression: &Expression) -> Result<i64, ResolveError>
+pub(crate) fn bound_of(values: &Constants<'_>, expression: &Expression) -> Result<i64, ResolveError>
     ensures { Answers (IsBound values.now expression.now) result }
 {
     match expression {
@@ -84,7 +84,7 @@ pub(crate) fn bound_of(values: &Values<'_>, expression: &Expression) -> Result<i
 /// The variables that a list names.
 pub(crate) fn vars_of(
     alloc: Global,
-    values: &Values<'_>,
+    values: &Constants<'_>,
     numbers: &[u32],
     expression: &Expression,
 ) -> Result<Vars, ResolveError>
@@ -101,7 +101,7 @@ pub(crate) fn vars_of(
 
 fn vars_in(
     alloc: Global,
-    values: &Values<'_>,
+    values: &Constants<'_>,
     numbers: &[u32],
     basics: &[Basic],
 ) -> Result<Vars, ResolveError>
@@ -118,7 +118,7 @@ fn vars_in(
     Ok(Vars::from_vec(vars))
 }
 
-fn var_of(values: &Values<'_>, numbers: &[u32], basic: &Basic) -> Option<VarId>
+fn var_of(values: &Constants<'_>, numbers: &[u32], basic: &Basic) -> Option<VarId>
     requires { AreNumbers values.now numbers.now }
     ensures { MatchOption result ((x : VarId) → IsVar values.now basic.now x → ⊥) (IsVar values.now basic.now) }
 {

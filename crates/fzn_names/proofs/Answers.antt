@@ -1,30 +1,30 @@
 -- A text has one answer.
 use Rattle.std.proofs.Common.{◌≡◌, ℕ, ◌<◌, List, Result, Ok, Err, refl, sym, ◌∙◌, ap, subst, arith}
+use Rattle.std.proofs.lemmas.Option.{same_Some}
 use Rattle.fzn_names.specs.declared.error.NameError.{NameError}
 use Rattle.fzn_names.specs.declared.error.NameError.TheVariants.{NameTwice, UnknownName, Memory}
 use Rattle.fzn_names.specs.declared.occurrence.Role.TheVariants.{Declares, Uses}
 use Rattle.fzn_names.specs.Numbered.{Mark, IsFault, IsFirstFault, IsNumbered}
-use Rattle.fzn_names.proofs.Lists.{one_there}
 
 -- at one place there is one fault
 one_fault : (os : List Mark) (k : ℕ) (e f : NameError) → IsFault os k e → IsFault os k f → e ≡ f
 one_fault os k (NameTwice at) (NameTwice b) h g =
-    let o : h.0 ≡ g.0 = one_there os k h.0 g.0 h.1 g.1 in
+    let o : h.0 ≡ g.0 = same_Some h.0 g.0 (sym h.1 ∙ g.1) in
     let places : at ≡ b = sym h.4 ∙ ap (λ (p : Mark). p.at) o ∙ g.4 in
     cc
 one_fault os k (NameTwice at) (UnknownName b) h g =
-    let o : h.0 ≡ g.0 = one_there os k h.0 g.0 h.1 g.1 in
+    let o : h.0 ≡ g.0 = same_Some h.0 g.0 (sym h.1 ∙ g.1) in
     let declares : g.0.role ≡ Declares = sym (ap (λ (p : Mark). p.role) o) ∙ h.2 in
     let uses = g.2 in
     absurd cc
 one_fault os k (NameTwice at) Memory h g = absurd g
 one_fault os k (UnknownName at) (NameTwice b) h g =
-    let o : h.0 ≡ g.0 = one_there os k h.0 g.0 h.1 g.1 in
+    let o : h.0 ≡ g.0 = same_Some h.0 g.0 (sym h.1 ∙ g.1) in
     let uses : g.0.role ≡ Uses = sym (ap (λ (p : Mark). p.role) o) ∙ h.2 in
     let declares = g.2 in
     absurd cc
 one_fault os k (UnknownName at) (UnknownName b) h g =
-    let o : h.0 ≡ g.0 = one_there os k h.0 g.0 h.1 g.1 in
+    let o : h.0 ≡ g.0 = same_Some h.0 g.0 (sym h.1 ∙ g.1) in
     let places : at ≡ b = sym h.4 ∙ ap (λ (p : Mark). p.at) o ∙ g.4 in
     cc
 one_fault os k (UnknownName at) Memory h g = absurd g

@@ -1,5 +1,6 @@
 -- What each occurrence changes in what is known of the text so far.
 use Rattle.std.proofs.Common.{◌≡◌, ℕ, suc, ◌+◌, ◌<◌, ◌≤◌, ◌↔◌, Bool, true, false, List, [], ◌∷◌, ◌++◌, length, take, Option, None, Some, Ok, slice_get, refl, sym, ◌∙◌, ap, subst, arith, inl, inr, add-one}
+use Rattle.std.proofs.lemmas.Option.{same_Some}
 use Rattle.std.proofs.lemmas.List.{append-nil, take_all}
 use Rattle.fzn_names.specs.declared.occurrence.Role.{Role}
 use Rattle.fzn_names.specs.declared.occurrence.Role.TheVariants.{Declares, Uses}
@@ -7,7 +8,7 @@ use Rattle.fzn_names.specs.Counted.{HasNoDouble, IsFirstDouble, IsCounted, fine_
 use Rattle.fzn_names.specs.Listed.{IsListed, IsUnlisted}
 use Rattle.fzn_names.specs.Noted.{IsNoted, earlier_of}
 use Rattle.fzn_names.specs.Numbered.{Mark, declared_by, declared_names, IsTwice}
-use Rattle.fzn_names.proofs.Lists.{declared_next, listed_left, listed_last, listed_cases, one_there}
+use Rattle.fzn_names.proofs.Lists.{declared_next, listed_left, listed_last, listed_cases}
 
 pub counted_none : (os : List Mark) → IsCounted os 0 [] None
 counted_none os = record {
@@ -45,13 +46,13 @@ no_double_more os k before here j at lt h =
 module _ (os : List Mark) (k : ℕ) (o : Mark) (stands : slice_get os k ≡ Some o) (names new : List (List ℕ)) (so_far : (m : List ℕ) → IsListed names m ↔ IsListed (declared_names (take k os)) m) where
   no_double_used : o.role ≡ Uses → (at : ℕ) → IsTwice os k at → ⊥
   no_double_used is at h =
-      let other : h.0 ≡ o = one_there os k h.0 o h.1 stands in
+      let other : h.0 ≡ o = same_Some h.0 o (sym h.1 ∙ stands) in
       let declares : o.role ≡ Declares = subst (λ (p : Mark). p.role ≡ Declares) other h.2 in
       cc
 
   no_double_new : IsUnlisted names o.name → (at : ℕ) → IsTwice os k at → ⊥
   no_double_new unlisted at h =
-      let other : h.0 ≡ o = one_there os k h.0 o h.1 stands in
+      let other : h.0 ≡ o = same_Some h.0 o (sym h.1 ∙ stands) in
       unlisted ((so_far o.name).1 (subst (λ (p : Mark). IsListed (declared_names (take k os)) p.name) other h.3))
 
   first_more : (r : Role) (again : Bool) (double : Option ℕ) → o.role ≡ r → IsNoted r names o.name new (Ok again) → IsFirstDouble os k names double → IsFirstDouble os (suc k) new (earlier_of double again k)

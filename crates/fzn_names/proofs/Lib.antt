@@ -2,7 +2,7 @@ mod Answers
 mod Counting
 mod Faults
 mod Keys
-mod Lists
+pub mod Lists
 mod Marked
 mod Whole
 mod Texts

@@ -20,11 +20,6 @@ first_among [] (suc n) i x lt e = absurd cc
 first_among (y ∷ xs) (suc n) zero x lt e = e
 first_among (y ∷ xs) (suc n) (suc i) x lt e = first_among xs n i x (omega arith) e
 
-pub one_there : {X : Type 0} (xs : List X) (i : ℕ) (x y : X) → slice_get xs i ≡ Some x → slice_get xs i ≡ Some y → x ≡ y
-one_there [] i x y e f = absurd cc
-one_there (z ∷ zs) zero x y e f = cc
-one_there (z ∷ zs) (suc i) x y e f = one_there zs i x y e f
-
 -- ---- names
 
 pub listed_left : (xs ys : List (List ℕ)) (n : List ℕ) (i : ℕ) → slice_get xs i ≡ Some n → slice_get (xs ++ ys) i ≡ Some n

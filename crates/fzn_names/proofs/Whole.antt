@@ -1,7 +1,7 @@
 -- The answer for a whole text, once its declared names are added.
 use Rattle.std.proofs.Common.{◌≡◌, ℕ, ◌+◌, ◌<◌, ◌↔◌, List, length, take, get_or, Option, None, Some, Ok, slice_get, refl, sym, ◌∙◌, ap, subst, arith}
 use Rattle.std.proofs.lemmas.List.{take_all}
-use Rattle.std.proofs.lemmas.Option.{get_or_from_slice_get}
+use Rattle.std.proofs.lemmas.Option.{get_or_from_slice_get, same_Some}
 use Rattle.fzn_names.specs.declared.error.NameError.TheVariants.{NameTwice, UnknownName}
 use Rattle.fzn_names.specs.declared.occurrence.Role.TheVariants.{Uses}
 use Rattle.fzn_names.specs.Counted.{HasNoDouble, IsCounted, IsFirstDouble, IsFirstUnknown, IsNowhere, fine_of}
@@ -9,7 +9,6 @@ use Rattle.fzn_names.specs.Listed.{IsListed, IsUnlisted}
 use Rattle.fzn_names.specs.Numbered.{Mark, declared_names, IsTwice, IsUnknown, IsFirstFault, IsNumbered}
 use Rattle.fzn_names.proofs.Counting.{counted_same, counted_fine}
 use Rattle.fzn_names.proofs.Faults.{unknown_first, twice_first, no_fault}
-use Rattle.fzn_names.proofs.Lists.{one_there}
 
 -- an unknown occurrence behind known ones
 pub unknown_here : (names : List (List ℕ)) (os : List Mark) (k : ℕ) (o : Mark) → slice_get os k ≡ Some o → ((j at : ℕ) → j < k → IsUnknown names os j at → ⊥)
@@ -22,7 +21,7 @@ pub known_more : (names : List (List ℕ)) (os : List Mark) (k : ℕ) (o : Mark)
 known_more names os k o stands before here j at lt h =
     let not_before : j < k → ⊥ = λ l. before j at l h in
     let not_here : j ≡ k → ⊥ = λ e. (
-    let other : h.0 ≡ o = one_there os k h.0 o (subst (λ (i : ℕ). slice_get os i ≡ Some h.0) e h.1) stands in
+    let other : h.0 ≡ o = same_Some h.0 o (sym (subst (λ (i : ℕ). slice_get os i ≡ Some h.0) e h.1) ∙ stands) in
     here (sym (ap (λ (p : Mark). p.role) other) ∙ h.2, subst (λ (p : Mark). IsUnlisted names p.name) other h.3)) in
     absurd (omega (arith, lt, not_before, not_here))
 

@@ -19,6 +19,7 @@ pub record IsCounted (os : List Mark) (k : ℕ) (names : List (List ℕ)) (doubl
   pub same : (n : List ℕ) → IsListed names n ↔ IsListed (declared_names (take k os)) n
   pub first : IsFirstDouble os k names double
 
+-- what counting the first so many occurrences answers
 abbrev pub Counts : List Mark → ℕ → List (List ℕ) → Result (Option ℕ) NameError → Type 0
 Counts os k names (Ok double) = IsCounted os k names double
 Counts os k names (Err (NameTwice at)) = ⊥

@@ -1,5 +1,6 @@
 -- The names that marks declare.
 use Rattle.std.proofs.Common.{◌≡◌, ℕ, zero, suc, ◌<◌, List, [], ◌∷◌, ◌++◌, map, take, Some, slice_get, refl, sym, ◌∙◌, ap, arith}
+use Rattle.fzn_names.proofs.Lists.{first_among}
 use Rattle.std.specs.List.{flat_map}
 use Rattle.std.proofs.lemmas.List.{append_assoc}
 use Rattle.fzn_names.specs.declared.error.NameError.{NameError}
@@ -28,12 +29,6 @@ declares_each f g one (x ∷ xs) = declared_names_append (f x) (flat_map f xs) �
 -- ---- the place at which a name is declared
 
 -- what stands early enough stands among the first so many
-first_among : {X : Type 0} (xs : List X) (n i : ℕ) (x : X) → i < n → slice_get xs i ≡ Some x → slice_get (take n xs) i ≡ Some x
-first_among xs zero i x lt e = absurd (omega arith)
-first_among [] (suc n) i x lt e = absurd cc
-first_among (y ∷ xs) (suc n) zero x lt e = e
-first_among (y ∷ xs) (suc n) (suc i) x lt e = first_among xs n i x (omega arith) e
-
 -- the mark at this place declares the name, and so many declared names stand before
 pub record DeclaresAt (marks : List Mark) (j : ℕ) (n : List ℕ) (k : ℕ) : Type 0 where
   pub mark : Mark

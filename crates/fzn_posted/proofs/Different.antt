@@ -5,7 +5,7 @@ use Rattle.std.specs.Ordering.{int_cmp, is_eq}
 use Rattle.std.specs.declared.cmp.Ordering.TheVariants as orders
 use Rattle.std.specs.Cmp.{int_cmp_is}
 use Rattle.std.proofs.lemmas.Map.Lookups.{exact_signed}
-use Rattle.std.proofs.lemmas.Option.{slice_get_within}
+use Rattle.std.proofs.lemmas.Option.{slice_get_within, same_Some}
 use Rattle.fzn_posted.specs.Shapes.{AreDifferent}
 
 -- these are the first so many integers, and they are different
@@ -23,9 +23,6 @@ none_seen zs has none = record {
 
 same_or_other : (i j : ℕ) → (i ≡ j) ⊎ (i ≡ j → ⊥)
 same_or_other i j = grind arith
-
-some_same : {A : Type 0} → (x y : A) → Some x ≡ Some y → x ≡ y
-some_same x y e = cc
 
 true_or_false : (b : Bool) → (b ≡ true) ⊎ (b ≡ false)
 true_or_false true = inl refl
@@ -64,7 +61,7 @@ module _ (zs : List ℤ) (k : ℕ) (v : ℤ) (old new : ℤ → Bool) (at : slic
       ]
 
   here_same : (q : ℤ) (j : ℕ) → j ≡ k → slice_get zs j ≡ Some q → v ≡ q
-  here_same q j same there = some_same v q (sym at ∙ subst (λ i. slice_get zs i ≡ Some q) same there)
+  here_same q j same there = same_Some v q (sym at ∙ subst (λ i. slice_get zs i ≡ Some q) same there)
 
   new_all : (j : ℕ) (q : ℤ) → j < k + 1 → slice_get zs j ≡ Some q → new q ≡ true
   new_all j q lt there =

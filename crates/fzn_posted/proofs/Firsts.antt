@@ -1,6 +1,6 @@
 -- The first constraint at fault.
 use Rattle.std.proofs.Common.{◌≡◌, ℕ, ◌+◌, ◌<◌, ◌≤◌, ◌⊎◌, inl, inr, List, length, get_or, slice_get, Some, refl, sym, ◌∙◌, ap, subst, arith}
-use Rattle.std.proofs.lemmas.Option.{slice_get_within, slice_get_read}
+use Rattle.std.proofs.lemmas.Option.{slice_get_within, slice_get_read, same_Some}
 use Rattle.fzn_syntax.specs.declared.constraint.Constraint.{Constraint}
 use Rattle.fzn_syntax.specs.declared.declaration.Declaration.{Declaration}
 use Rattle.fzn_posted.specs.declared.fault.ConstraintFault.{ConstraintFault}
@@ -10,16 +10,13 @@ use Rattle.fzn_posted.specs.Faults.{IsFaultOf, IsFaultAt, IsFineBefore, IsFine, 
 same_or_other : (i j : ℕ) → (i ≡ j) ⊎ (i ≡ j → ⊥)
 same_or_other i j = grind arith
 
-some_same : {A : Type 0} → (x y : A) → Some x ≡ Some y → x ≡ y
-some_same x y e = cc
-
 module _ (ds : List Declaration) (cs : List Constraint) where
   pub fine_more : (k : ℕ) (c : Constraint) → slice_get cs k ≡ Some c → IsFineBefore ds cs k → ((f : ConstraintFault) → IsFaultOf ds c f → ⊥) → IsFineBefore ds cs (k + 1)
   fine_more k c at before fine j f lt h =
       elim (same_or_other j k) [
         | inl same ↦ (
             let there : slice_get cs k ≡ Some h.0 = subst (λ i. slice_get cs i ≡ Some h.0) same h.1 in
-            fine f (subst (λ x. IsFaultOf ds x f) (some_same h.0 c (sym there ∙ at)) h.2))
+            fine f (subst (λ x. IsFaultOf ds x f) (same_Some h.0 c (sym there ∙ at)) h.2))
         | inr apart ↦ before j f (omega (arith, lt, apart)) h
       ]
 
@@ -41,7 +38,7 @@ module _ (ds : List Declaration) (cs : List Constraint) where
       let not_behind : k.0 < h.0 → ⊥ = λ lt. h.2 k.0 g lt k.1 in
       let place : k.0 ≡ h.0 = omega (arith, not_before, not_behind) in
       let there : slice_get cs h.0 ≡ Some k.1.0 = subst (λ i. slice_get cs i ≡ Some k.1.0) place k.1.1 in
-      one_of h.1.0 f g h.1.2 (subst (λ x. IsFaultOf ds x g) (some_same k.1.0 h.1.0 (sym there ∙ h.1.1)) k.1.2)
+      one_of h.1.0 f g h.1.2 (subst (λ x. IsFaultOf ds x g) (same_Some k.1.0 h.1.0 (sym there ∙ h.1.1)) k.1.2)
 
 pub constraint_at : (cs : List Constraint) (i : ℕ) (c : Constraint) → i < length cs → c ≡ get_or cs i c → slice_get cs i ≡ Some c
 constraint_at cs i c lt is = slice_get_read cs (length cs) i c refl lt is

@@ -1,6 +1,6 @@
 -- What calls tell of names, lengths and rows.
 use Rattle.std.proofs.Common.{◌≡◌, ◌↔◌, ℕ, ◌+◌, ◌<◌, ◌≤◌, ◌⊎◌, inl, inr, ℤ, Bool, true, false, List, length, get_or, slice_get, Option, None, Some, Result, Ok, Err, IfOk, MatchOption, IfSome, IsTrue, refl, sym, ◌∙◌, ap, subst, arith}
-use Rattle.std.proofs.lemmas.Option.{slice_get_within, slice_get_read}
+use Rattle.std.proofs.lemmas.Option.{slice_get_within, slice_get_read, same_Some}
 use Rattle.fzn_syntax.specs.declared.constraint.Constraint.{Constraint}
 use Rattle.fzn_syntax.specs.declared.declaration.Declaration.{Declaration}
 use Rattle.fzn_syntax.specs.declared.expression.Basic.{Basic}
@@ -15,9 +15,6 @@ use Rattle.fzn_values.specs.Worth.{AreIntsOf}
 use Rattle.fzn_posted.specs.Arguments.{IsOfType, IsArgumentAt, AreArguments}
 use Rattle.fzn_posted.specs.Shapes.{last_of, IsLengthOfName, IsLength, HaveOneLength, HaveOneLengthAt, AreDifferent, HasDifferent, HasDifferentAt}
 use Rattle.fzn_posted.specs.Posted.{FitsEntry, IsPosted}
-
-some_same : {A : Type 0} → (x y : A) → Some x ≡ Some y → x ≡ y
-some_same x y e = cc
 
 pub neither : (P : Type 0) → (P → ⊥) → IsTrue false ↔ P
 neither P not = (λ h. absurd cc, λ h. absurd (not h))
@@ -48,7 +45,7 @@ module _ (ds : List Declaration) (b : Basic) (n : Identifier) (m : List ℕ) whe
 
     pub length_only : (r : Option ℤ) → b ≡ basics.Name n → m ≡ n.name → IsOnly ds m d → r ≡ last_of d → IfSome r (λ z. (y : ℤ) → IsLengthOfName ds b y → y ≡ z)
     length_only None is same only told = tt
-    length_only (Some z) is same only told = λ y h. some_same y z (sym (length_of y is same only h) ∙ sym told)
+    length_only (Some z) is same only told = λ y h. same_Some y z (sym (length_of y is same only h) ∙ sym told)
 
 pub lengths : (ds : List Declaration) (a b : Expression) (x y : ℤ) (r : Bool) → IsLength ds a x → ((z : ℤ) → IsLength ds a z → z ≡ x) → IsLength ds b y → ((z : ℤ) → IsLength ds b z → z ≡ y)
     → IsTrue r ↔ (x ≡ y) → IsTrue r ↔ HaveOneLength ds a b
@@ -58,24 +55,24 @@ lengths ds a b x y r is only is2 only2 told =
 pub lengths_at : (ds : List Declaration) (es : List Expression) (i j : ℕ) (a b : Expression) (r : Bool) → slice_get es i ≡ Some a → slice_get es j ≡ Some b → IsTrue r ↔ HaveOneLength ds a b → IsTrue r ↔ HaveOneLengthAt ds es i j
 lengths_at ds es i j a b r at at2 told = (
   λ h. (a, b, at, at2, told.0 h),
-  λ h. told.1 (subst (λ x. HaveOneLength ds a x) (some_same h.1 b (sym h.3 ∙ at2)) (subst (λ x. HaveOneLength ds x h.1) (some_same h.0 a (sym h.2 ∙ at)) h.4)),
+  λ h. told.1 (subst (λ x. HaveOneLength ds a x) (same_Some h.1 b (sym h.3 ∙ at2)) (subst (λ x. HaveOneLength ds x h.1) (same_Some h.0 a (sym h.2 ∙ at)) h.4)),
 )
 
 pub different_at : (ds : List Declaration) (es : List Expression) (i : ℕ) (e : Expression) (r : Bool) → slice_get es i ≡ Some e → IsTrue r ↔ HasDifferent ds e → IsTrue r ↔ HasDifferentAt ds es i
-different_at ds es i e r at told = (λ h. (e, at, told.0 h), λ h. told.1 (subst (λ x. HasDifferent ds x) (some_same h.0 e (sym h.1 ∙ at)) h.2))
+different_at ds es i e r at told = (λ h. (e, at, told.0 h), λ h. told.1 (subst (λ x. HasDifferent ds x) (same_Some h.0 e (sym h.1 ∙ at)) h.2))
 
 pub different_of : (ds : List Declaration) (e : Expression) (zs : List ℤ) (r : Bool) → AreIntsOf ds e zs → ((ys : List ℤ) → AreIntsOf ds e ys → ys ≡ zs) → IsTrue r ↔ AreDifferent zs → IsTrue r ↔ HasDifferent ds e
 different_of ds e zs r is only told = (λ h. (zs, is, told.0 h), λ h. told.1 (subst (λ x. AreDifferent x) (only h.0 h.1) h.2))
 
 pub argument_at : (ds : List Declaration) (t : ArgumentType) (es : List Expression) (k : ℕ) (e : Expression) (r : Bool) → slice_get es k ≡ Some e → IsTrue r ↔ IsOfType ds t e → IsTrue r ↔ IsArgumentAt ds t es k
-argument_at ds t es k e r at told = (λ h. (e, at, told.0 h), λ h. told.1 (subst (λ x. IsOfType ds t x) (some_same h.0 e (sym h.1 ∙ at)) h.2))
+argument_at ds t es k e r at told = (λ h. (e, at, told.0 h), λ h. told.1 (subst (λ x. IsOfType ds t x) (same_Some h.0 e (sym h.1 ∙ at)) h.2))
 
 -- ---- rows
 
 one_entry : (name : List ℕ) (e f : Entry) → ((i j : ℕ) (x y : Entry) → slice_get table i ≡ Some x → slice_get table j ≡ Some y → x.name ≡ y.name → i ≡ j) → IsEntryOf name e → IsEntryOf name f → f ≡ e
 one_entry name e f one h g =
     let same : g.0 ≡ h.0 = one g.0 h.0 f e g.1 h.1 (g.2 ∙ sym h.2) in
-    some_same f e (sym (subst (λ k. slice_get table k ≡ Some f) same g.1) ∙ h.1)
+    same_Some f e (sym (subst (λ k. slice_get table k ≡ Some f) same g.1) ∙ h.1)
 
 module _ (ds : List Declaration) (c : Constraint) (m : List ℕ) (same : m ≡ c.name.name) where
   pub unlisted : IsUnlisted m → IsTrue false ↔ IsPosted ds c
@@ -122,7 +119,7 @@ module _ (ds : List Declaration) (ts : List ArgumentType) (es : List Expression)
   arguments_more i t at before is k x lt there =
       elim (same_or_other k i) [
         | inl same ↦ (
-            let one : t ≡ x = some_same t x (sym at ∙ subst (λ j. slice_get ts j ≡ Some x) same there) in
+            let one : t ≡ x = same_Some t x (sym at ∙ subst (λ j. slice_get ts j ≡ Some x) same there) in
             subst (λ y. IsArgumentAt ds y es k) one (subst (λ j. IsArgumentAt ds t es j) (sym same) is))
         | inr apart ↦ before k x (omega (arith, lt, apart)) there
       ]

@@ -9,18 +9,18 @@ use Rattle.fzn_table.specs.declared.argument_type.ArgumentType.{ArgumentType}
 use Rattle.fzn_table.specs.declared.argument_type.ArgumentType.TheVariants as types
 use Rattle.fzn_scope.specs.declared.base.Base.{Base}
 use Rattle.fzn_scope.specs.declared.base.Base.TheVariants as bases
-use Rattle.fzn_scope.specs.declared.typing.Reading.{Reading}
-use Rattle.fzn_scope.specs.declared.typing.Reading.TheVariants as readings
+use Rattle.fzn_scope.specs.declared.typing.Instantiation.{Instantiation}
+use Rattle.fzn_scope.specs.declared.typing.Instantiation.TheVariants as instantiations
 use Rattle.fzn_scope.specs.Sorts.{sort, Names}
 use Rattle.fzn_scope.specs.Typing.{IsScalar, AllFit}
 
 -- names of arrays of this base type serve here: those of parameters, and those of variables where variables may stand
-abbrev pub NamesArray : List Declaration → Reading → Base → List ℕ → Type 0
-NamesArray ds readings.Constant base n = Names ds n (sort base false true)
-NamesArray ds readings.Entry base n = Names ds n (sort base false true) ⊎ Names ds n (sort base true true)
+abbrev pub NamesArray : List Declaration → Instantiation → Base → List ℕ → Type 0
+NamesArray ds instantiations.Constant base n = Names ds n (sort base false true)
+NamesArray ds instantiations.Entry base n = Names ds n (sort base false true) ⊎ Names ds n (sort base true true)
 
 -- the expression is such a name
-abbrev pub IsArrayName : List Declaration → Reading → Base → Basic → Type 0
+abbrev pub IsArrayName : List Declaration → Instantiation → Base → Basic → Type 0
 IsArrayName ds r base basics.True = ⊥
 IsArrayName ds r base basics.False = ⊥
 IsArrayName ds r base (basics.Name n) = NamesArray ds r base n.name
@@ -29,19 +29,20 @@ IsArrayName ds r base (basics.Range b) = ⊥
 IsArrayName ds r base (basics.Set zs) = ⊥
 
 -- a list of literals and names that fit, or the name of an array
-abbrev pub IsArray : List Declaration → Reading → Base → Expression → Type 0
+abbrev pub IsArray : List Declaration → Instantiation → Base → Expression → Type 0
 IsArray ds r base (expressions.Basic b) = IsArrayName ds r base b
 IsArray ds r base (expressions.List bs) = AllFit ds r base bs
 
+-- the expression is of this type
 abbrev pub IsOfType : List Declaration → ArgumentType → Expression → Type 0
-IsOfType ds types.ConstantInteger e = IsScalar ds readings.Constant bases.Int e
-IsOfType ds types.Set e = IsScalar ds readings.Constant bases.Set e
-IsOfType ds types.ConstantIntegerArray e = IsArray ds readings.Constant bases.Int e
-IsOfType ds types.ConstantBooleanArray e = IsArray ds readings.Constant bases.Bool e
-IsOfType ds types.Integer e = IsScalar ds readings.Entry bases.Int e
-IsOfType ds types.Boolean e = IsScalar ds readings.Entry bases.Bool e
-IsOfType ds types.IntegerArray e = IsArray ds readings.Entry bases.Int e
-IsOfType ds types.BooleanArray e = IsArray ds readings.Entry bases.Bool e
+IsOfType ds types.ConstantInteger e = IsScalar ds instantiations.Constant bases.Int e
+IsOfType ds types.Set e = IsScalar ds instantiations.Constant bases.Set e
+IsOfType ds types.ConstantIntegerArray e = IsArray ds instantiations.Constant bases.Int e
+IsOfType ds types.ConstantBooleanArray e = IsArray ds instantiations.Constant bases.Bool e
+IsOfType ds types.Integer e = IsScalar ds instantiations.Entry bases.Int e
+IsOfType ds types.Boolean e = IsScalar ds instantiations.Entry bases.Bool e
+IsOfType ds types.IntegerArray e = IsArray ds instantiations.Entry bases.Int e
+IsOfType ds types.BooleanArray e = IsArray ds instantiations.Entry bases.Bool e
 
 -- an argument of this type stands at this place
 abbrev pub IsArgumentAt : List Declaration → ArgumentType → List Expression → ℕ → Type 0

@@ -3,7 +3,7 @@ use Rattle.std.specs.Prelude.{◌≡◌, ◌↔◌, ℕ, Bool, false, List, slic
 use Rattle.fzn_syntax.specs.declared.declaration.Declaration.{Declaration}
 use Rattle.fzn_syntax.specs.declared.expression.Basic.{Basic}
 use Rattle.fzn_syntax.specs.declared.expression.Expression.TheVariants as expressions
-use Rattle.fzn_values.specs.declared.literal.Literal.TheVariants as literals
+use Rattle.fzn_values.specs.declared.literal.LiteralKind.TheVariants as literals
 use Rattle.fzn_values.specs.Literals.{value_for}
 use Rattle.fzn_posted.specs.Shapes.{HasDifferent}
 
@@ -11,8 +11,10 @@ use Rattle.fzn_posted.specs.Shapes.{HasDifferent}
 abbrev pub IsMarkOf : List Declaration → Declaration → Bool → Type 0
 IsMarkOf ds d mark = (bs : List Basic) → value_for literals.List d ≡ Some (expressions.List bs) → IsTrue mark ↔ HasDifferent ds (expressions.List bs)
 
+-- the mark of the declaration at this place
 abbrev pub mark_at : List Bool → ℕ → Bool
 mark_at marks k = slice_index_or marks k false
 
+-- each declaration has its mark
 abbrev pub AreMarks : List Declaration → List Bool → Type 0
 AreMarks ds marks = (k : ℕ) (d : Declaration) → slice_get ds k ≡ Some d → IsMarkOf ds d (mark_at marks k)

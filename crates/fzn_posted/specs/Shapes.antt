@@ -48,6 +48,7 @@ AreDifferent zs = (i j : ℕ) (z : ℤ) → slice_get zs i ≡ Some z → slice_
 abbrev pub HasDifferent : List Declaration → Expression → Type 0
 HasDifferent ds e = (zs : List ℤ) × AreIntsOf ds e zs × AreDifferent zs
 
+-- the argument at this place does
 abbrev pub HasDifferentAt : List Declaration → List Expression → ℕ → Type 0
 HasDifferentAt ds es i = (e : Expression) × (slice_get es i ≡ Some e) × HasDifferent ds e
 

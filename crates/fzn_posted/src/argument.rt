@@ -3,7 +3,7 @@ ghost use Rattle.std.specs.Prelude.{◌≡◌, ◌↔◌, true, IsTrue};
 ghost use Rattle.fzn_scope.specs.Sorts.{sort};
 ghost use Rattle.fzn_posted.specs.Arguments.{NamesArray, IsArrayName, IsArray, IsOfType, IsArgumentAt, AreArguments};
 
-use fzn_scope::{Base, Reading, Scope, Sort, are_all, is_scalar, names};
+use fzn_scope::{Base, Instantiation, Scope, Sort, are_all, is_scalar, names};
 use fzn_syntax::{Basic, Expression};
 use fzn_table::ArgumentType;
 
@@ -17,35 +17,40 @@ const fn array_of(base: Base, is_variable: bool) -> Sort
     }
 }
 
-fn names_array(scope: &Scope<'_>, reading: Reading, base: Base, name: &[u8]) -> bool
-    ensures { IsTrue result ↔ NamesArray scope.now reading base name.now }
+fn names_array(scope: &Scope<'_>, instantiation: Instantiation, base: Base, name: &[u8]) -> bool
+    ensures { IsTrue result ↔ NamesArray scope.now instantiation base name.now }
 {
     let parameters = names(scope, name, array_of(base, false));
-    match reading {
-        Reading::Constant => parameters,
-        Reading::Entry => parameters || names(scope, name, array_of(base, true)),
+    match instantiation {
+        Instantiation::Constant => parameters,
+        Instantiation::Entry => parameters || names(scope, name, array_of(base, true)),
     }
 }
 
-fn is_array_name(scope: &Scope<'_>, reading: Reading, base: Base, basic: &Basic) -> bool
-    ensures { IsTrue result ↔ IsArrayName scope.now reading base basic.now }
+fn is_array_name(scope: &Scope<'_>, instantiation: Instantiation, base: Base, basic: &Basic) -> bool
+    ensures { IsTrue result ↔ IsArrayName scope.now instantiation base basic.now }
 {
     match basic {
         Basic::True => false,
         Basic::False => false,
-        Basic::Name(name) => names_array(scope, reading, base, name.name.as_bytes()),
+        Basic::Name(name) => names_array(scope, instantiation, base, name.name.as_bytes()),
         Basic::Number(_) => false,
         Basic::Range(_) => false,
         Basic::Set(_) => false,
     }
 }
 
-fn is_array(scope: &Scope<'_>, reading: Reading, base: Base, expression: &Expression) -> bool
-    ensures { IsTrue result ↔ IsArray scope.now reading base expression.now }
+fn is_array(
+    scope: &Scope<'_>,
+    instantiation: Instantiation,
+    base: Base,
+    expression: &Expression,
+) -> bool
+    ensures { IsTrue result ↔ IsArray scope.now instantiation base expression.now }
 {
     match expression {
-        Expression::Basic(basic) => is_array_name(scope, reading, base, basic),
-        Expression::List(basics) => are_all(scope, reading, base, basics.as_slice()),
+        Expression::Basic(basic) => is_array_name(scope, instantiation, base, basic),
+        Expression::List(basics) => are_all(scope, instantiation, base, basics.as_slice()),
     }
 }
 
@@ -55,19 +60,19 @@ pub fn is_of_type(scope: &Scope<'_>, wanted: ArgumentType, expression: &Expressi
 {
     match wanted {
         ArgumentType::ConstantInteger => {
-            is_scalar(scope, Reading::Constant, Base::Int, expression)
+            is_scalar(scope, Instantiation::Constant, Base::Int, expression)
         }
-        ArgumentType::Set => is_scalar(scope, Reading::Constant, Base::Set, expression),
+        ArgumentType::Set => is_scalar(scope, Instantiation::Constant, Base::Set, expression),
         ArgumentType::ConstantIntegerArray => {
-            is_array(scope, Reading::Constant, Base::Int, expression)
+            is_array(scope, Instantiation::Constant, Base::Int, expression)
         }
         ArgumentType::ConstantBooleanArray => {
-            is_array(scope, Reading::Constant, Base::Bool, expression)
+            is_array(scope, Instantiation::Constant, Base::Bool, expression)
         }
-        ArgumentType::Integer => is_scalar(scope, Reading::Entry, Base::Int, expression),
-        ArgumentType::Boolean => is_scalar(scope, Reading::Entry, Base::Bool, expression),
-        ArgumentType::IntegerArray => is_array(scope, Reading::Entry, Base::Int, expression),
-        ArgumentType::BooleanArray => is_array(scope, Reading::Entry, Base::Bool, expression),
+        ArgumentType::Integer => is_scalar(scope, Instantiation::Entry, Base::Int, expression),
+        ArgumentType::Boolean => is_scalar(scope, Instantiation::Entry, Base::Bool, expression),
+        ArgumentType::IntegerArray => is_array(scope, Instantiation::Entry, Base::Int, expression),
+        ArgumentType::BooleanArray => is_array(scope, Instantiation::Entry, Base::Bool, expression),
     }
 }
 

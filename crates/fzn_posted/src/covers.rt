@@ -3,7 +3,7 @@ ghost use Rattle.std.specs.Prelude.{◌≡◌, ◌↔◌, ◌<◌, length, slice
 ghost use Rattle.fzn_posted.specs.Shapes.{AreDifferent, HasDifferent};
 
 use fzn_syntax::Expression;
-use fzn_values::Values;
+use fzn_values::Constants;
 use std::alloc::{AllocError, Global};
 use std::collections::BTreeSet;
 
@@ -31,7 +31,7 @@ fn are_different(alloc: Global, ints: &[i64]) -> Result<bool, AllocError>
 // Whether the expression stands for integers that are different; the whole list is looked at.
 pub(crate) fn has_different(
     alloc: Global,
-    values: &Values<'_>,
+    values: &Constants<'_>,
     expression: &Expression,
 ) -> Result<bool, AllocError>
     ensures { IfOk result (λ b. IsTrue b ↔ HasDifferent values.now expression.now) }

@@ -7,14 +7,14 @@ ghost use Rattle.fzn_posted.specs.Shapes.{HasDifferent, HasDifferentAt};
 use crate::covers::has_different;
 use crate::marks::{mark_at, marks_of};
 use fzn_syntax::Expression;
-use fzn_values::Values;
+use fzn_values::Constants;
 use std::alloc::{AllocError, Global};
 use std::marker::Model;
 
 // The declarations of a text with what is known of their lists.
 #[derive(Drop)]
 pub(crate) struct Distinct<'a> {
-    values: &'a Values<'a>,
+    values: &'a Constants<'a>,
     marks: Vec<bool>,
 }
 
@@ -32,14 +32,14 @@ impl<'a> Model for Distinct<'a> {
 
 impl<'a> Distinct<'a> {
     // Each list of a declaration is looked at once.
-    pub(crate) fn new(alloc: Global, values: &'a Values<'a>) -> Result<Distinct<'a>, AllocError>
+    pub(crate) fn new(alloc: Global, values: &'a Constants<'a>) -> Result<Distinct<'a>, AllocError>
         ensures { IfOk result (λ d. d ≡ values.now) }
     {
         let marks = marks_of(alloc, values)?;
         Ok(Distinct { values, marks })
     }
 
-    pub(crate) fn values(&self) -> &'a Values<'a>
+    pub(crate) fn values(&self) -> &'a Constants<'a>
         ensures { result.now ≡ self.now }
     {
         self.values

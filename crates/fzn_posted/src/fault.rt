@@ -8,7 +8,7 @@ use crate::posted::is_right;
 use fzn_floats::has_float_or_set;
 use fzn_scope::Scope;
 use fzn_syntax::Constraint;
-use fzn_values::Values;
+use fzn_values::Constants;
 use std::alloc::{AllocError, Global};
 
 /// What is wrong with a constraint, and the first byte of its name.
@@ -70,7 +70,7 @@ fn first_among(
 /// What the first constraint at fault has, at its name.
 pub fn first_fault(
     alloc: Global,
-    values: &Values<'_>,
+    values: &Constants<'_>,
     constraints: &[Constraint],
 ) -> Result<Option<ConstraintFault>, AllocError>
     ensures { IfOk result (λ first. MatchOption first (IsFine values.now constraints.now) (IsFirstFault values.now constraints.now)) }

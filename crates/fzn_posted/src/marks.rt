@@ -2,22 +2,22 @@
 ghost use Rattle.std.specs.Prelude.{◌≡◌, List, Some, IfOk, MatchOption};
 ghost use Rattle.fzn_syntax.specs.declared.expression.Basic.{Basic};
 ghost use Rattle.fzn_syntax.specs.declared.expression.Expression.TheVariants as expressions;
-ghost use Rattle.fzn_values.specs.declared.literal.Literal.TheVariants as literals;
+ghost use Rattle.fzn_values.specs.declared.literal.LiteralKind.TheVariants as literals;
 ghost use Rattle.fzn_values.specs.Literals.{value_for};
 ghost use Rattle.fzn_posted.specs.Marks.{IsMarkOf, AreMarks, mark_at};
 
 use crate::covers::has_different;
 use fzn_syntax::{Declaration, Expression};
-use fzn_values::{Literal, Values, is_literal, value_for};
+use fzn_values::{Constants, LiteralKind, is_literal, value_for};
 use std::alloc::{AllocError, Global};
 
 fn own_list(declaration: &Declaration) -> Option<&Expression>
     ensures { MatchOption result ((bs : List Basic) → value_for literals.List declaration.now ≡ Some (expressions.List bs) → ⊥) (λ l. value_for literals.List declaration.now ≡ Some l.now) }
 {
-    match value_for(Literal::List, declaration) {
+    match value_for(LiteralKind::List, declaration) {
         None => None,
         Some(value) => {
-            if is_literal(Literal::List, value) {
+            if is_literal(LiteralKind::List, value) {
                 Some(value)
             } else {
                 None
@@ -28,7 +28,7 @@ fn own_list(declaration: &Declaration) -> Option<&Expression>
 
 fn mark_of(
     alloc: Global,
-    values: &Values<'_>,
+    values: &Constants<'_>,
     declaration: &Declaration,
 ) -> Result<bool, AllocError>
     ensures { IfOk result (IsMarkOf values.now declaration.now) }
@@ -40,7 +40,7 @@ fn mark_of(
 }
 
 // The mark of each declaration. Each list is looked at once.
-pub(crate) fn marks_of(alloc: Global, values: &Values<'_>) -> Result<Vec<bool>, AllocError>
+pub(crate) fn marks_of(alloc: Global, values: &Constants<'_>) -> Result<Vec<bool>, AllocError>
     ensures { IfOk result (λ marks. AreMarks values.now marks.items) }
 {
     let mut marks = Vec::new(alloc);

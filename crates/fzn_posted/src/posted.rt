@@ -9,7 +9,7 @@ use crate::distinct::Distinct;
 use crate::length::have_one_length_at;
 use fzn_syntax::{Constraint, Expression};
 use fzn_table::{Row, Shape, one_row, row_of};
-use fzn_values::Values;
+use fzn_values::Constants;
 use std::alloc::{AllocError, Global};
 
 fn meets_shape(
@@ -70,7 +70,7 @@ pub(crate) fn is_right(
 /// All lists of the text are looked at; many constraints are judged by `first_fault`.
 pub fn is_posted(
     alloc: Global,
-    values: &Values<'_>,
+    values: &Constants<'_>,
     constraint: &Constraint,
 ) -> Result<bool, AllocError>
     ensures { IfOk result (λ b. IsTrue b ↔ IsPosted values.now constraint.now) }

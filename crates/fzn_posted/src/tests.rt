@@ -5,7 +5,7 @@ use fzn_occurrences::scope_of;
 use fzn_scope::Scope;
 use fzn_syntax::{Constraint, Items, parse};
 use fzn_table::ArgumentType;
-use fzn_values::Values;
+use fzn_values::Constants;
 use std::alloc::Global;
 use std::process::Abort;
 use std::test::Fail;
@@ -44,7 +44,7 @@ fn first(
     scope: &Scope<'_>,
     constraints: &[Constraint],
 ) -> Result<Option<ConstraintFault>, Fail> {
-    let values = Values::new(alloc, scope)?;
+    let values = Constants::new(alloc, scope)?;
     Ok(first_fault(alloc, &values, constraints)?)
 }
 
@@ -244,7 +244,7 @@ fn judges<R: Abort>(
     scope: &Scope<'_>,
     constraints: &[Constraint],
 ) -> Result<(), Fail> {
-    let values = Values::new(alloc, scope)?;
+    let values = Constants::new(alloc, scope)?;
     for (place, constraint) in constraints.iter().enumerate() {
         assert!(rt;
             is_posted(alloc, &values, constraint)? == (place == 0),

@@ -8,7 +8,8 @@ use Rattle.fzn_lex.specs.Classes.{is_word, is_letter, is_digit, is_blank, Are}
 use Rattle.fzn_lex.specs.Tokens.{Spells, IsSmall}
 use Rattle.fzn_lex.specs.Cutting.{Cutting, bytes_of}
 use Rattle.fzn_lex.proofs.TightPieces.{NumberStops, AreTight, blank_piece}
-use Rattle.fzn_spelling.specs.Spelling.{spelling_of, IsKept}
+use Rattle.fzn_lex.specs.Kept.{IsKept}
+use Rattle.fzn_spelling.specs.Spelling.{spelling_of}
 use Rattle.fzn_spelling.proofs.Spelled.{written, TokenStops, tight_token, tight_blank, stops_at, stops_at_dots}
 use Rattle.fzn_syntax.specs.Words.{code, kind_by}
 use Rattle.fzn_syntax.specs.declared.number.Number.{Number}
@@ -24,7 +25,7 @@ use Rattle.fzn_syntax.specs.declared.expression.Basic.{Basic}
 use Rattle.fzn_syntax.specs.declared.expression.Basic.TheVariants as basics
 use Rattle.fzn_syntax.specs.declared.expression.Expression.{Expression}
 use Rattle.fzn_syntax.specs.declared.expression.Expression.TheVariants as expressions
-use Rattle.fzn_print.proofs.Codes.{name_code}
+use Rattle.fzn_syntax.proofs.Spelled.{IsSpelledNumber, IsSpelledBounds, AreSpelled, IsSpelledElement, IsSpelledParameterType, IsSpelledVariableType, IsSpelledName, IsSpelledBasic, IsSpelledExpression}
 use Rattle.fzn_print.specs.Marks.{Mark, token, space, newline, symbol, name, mark_bytes, text_of, others, listed}
 use Rattle.fzn_print.specs.Canonical.{number_marks, bounds_marks, set_marks, element_marks, set_of_marks, parameter_type_marks, domain_marks, variable_type_marks, basic_marks, expression_marks}
 use Rattle.fzn_print.proofs.Texts.{text_of-append}
@@ -118,61 +119,20 @@ module _ {X : Type 0} (f : X → List Mark) (Fine : X → Type 0) (apart : (x : 
   listed_apart [] rest h stop = tt
   listed_apart (x ∷ xs) rest (fine, h) stop = AreApart-append (f x) (others f xs) rest (apart x _ fine (others_stop xs rest stop)) (others_apart xs rest h stop)
 
--- ---- what is fine of each production: its numbers are small, its floats and names are spelled
-
-abbrev pub IsFineNumber : Number → Type 0
-IsFineNumber (numbers.Int z) = IsSmall z
-IsFineNumber (numbers.Float text) = Spells what.Float text
-
-abbrev pub IsFineBounds : Bounds → Type 0
-IsFineBounds b = IsFineNumber b.lower × IsFineNumber b.upper
-
-abbrev pub AreFine : List Number → Type 0
-AreFine ns = AllByRecursion IsFineNumber ns
-
-abbrev pub IsFineElement : Element → Type 0
-IsFineElement (elements.Range b) = IsFineBounds b
-IsFineElement (elements.Set ns) = AreFine ns
-IsFineElement _ = Unit {0}
-
-abbrev pub IsFineParameterType : ParameterType → Type 0
-IsFineParameterType (parameters.SetOf e) = IsFineElement e
-IsFineParameterType _ = Unit {0}
-
-abbrev pub IsFineVariableType : VariableType → Type 0
-IsFineVariableType variables.Bool = Unit {0}
-IsFineVariableType (variables.Plain e) = IsFineElement e
-IsFineVariableType (variables.SetOf e) = IsFineElement e
-
--- spelled like a name, and no reserved word
-abbrev pub IsFineName : List ℕ → Type 0
-IsFineName text = Spells what.Name text × (code (kind_by what.Name text) ≡ name_code)
-
-abbrev pub IsFineBasic : Basic → Type 0
-IsFineBasic (basics.Name n) = IsFineName n.name
-IsFineBasic (basics.Number n) = IsFineNumber n
-IsFineBasic (basics.Range b) = IsFineBounds b
-IsFineBasic (basics.Set ns) = AreFine ns
-IsFineBasic _ = Unit {0}
-
-abbrev pub IsFineExpression : Expression → Type 0
-IsFineExpression (expressions.Basic b) = IsFineBasic b
-IsFineExpression (expressions.List bs) = AllByRecursion IsFineBasic bs
-
 -- ---- each production
 
-pub number_apart : (n : Number) (rest : List ℕ) → IsFineNumber n → NumberStops rest → AreApart (number_marks n) rest
+pub number_apart : (n : Number) (rest : List ℕ) → IsSpelledNumber n → NumberStops rest → AreApart (number_marks n) rest
 number_apart (numbers.Int z) rest h stop = (h, stop, tt)
 number_apart (numbers.Float text) rest h stop = (h, stop, tt)
 
-pub bounds_apart : (b : Bounds) (rest : List ℕ) → IsFineBounds b → NumberStops rest → AreApart (bounds_marks b) rest
+pub bounds_apart : (b : Bounds) (rest : List ℕ) → IsSpelledBounds b → NumberStops rest → AreApart (bounds_marks b) rest
 bounds_apart b rest (low, high) stop =
     AreApart-append (number_marks b.lower) (symbol what.DotDot ∷ number_marks b.upper) rest (number_apart b.lower _ low (stops_at_dots (text_of (number_marks b.upper) ++ rest)))
     (tt, tt, number_apart b.upper rest high stop)
 
-pub set_apart : (ns : List Number) (rest : List ℕ) → AreFine ns → AreApart (set_marks ns) rest
+pub set_apart : (ns : List Number) (rest : List ℕ) → AreSpelled ns → AreApart (set_marks ns) rest
 set_apart ns rest h =
-    (tt, tt, AreApart-append (listed number_marks ns) (symbol what.RightBrace ∷ []) rest (listed_apart number_marks IsFineNumber number_apart ns (125 ∷ rest) h (at_brace rest)) (tt, tt, tt))
+    (tt, tt, AreApart-append (listed number_marks ns) (symbol what.RightBrace ∷ []) rest (listed_apart number_marks IsSpelledNumber number_apart ns (125 ∷ rest) h (at_brace rest)) (tt, tt, tt))
 
 -- ---- reserved words are spelled like names
 
@@ -246,30 +206,30 @@ reserved_apart text rest h stop = (h, stop.no_word, tt)
 pub spaced : (text : List ℕ) (ms : List Mark) (rest : List ℕ) → Spells what.Name text → AreApart ms rest → AreApart (name text ∷ space ∷ ms) rest
 spaced text ms rest h more = (h, (at_space (text_of ms ++ rest)).no_word, more)
 
-pub element_apart : (e : Element) (rest : List ℕ) → IsFineElement e → NumberStops rest → AreApart (element_marks e) rest
+pub element_apart : (e : Element) (rest : List ℕ) → IsSpelledElement e → NumberStops rest → AreApart (element_marks e) rest
 element_apart elements.Int rest h stop = reserved_apart (codes "int") rest int_name stop
 element_apart elements.Float rest h stop = reserved_apart (codes "float") rest float_name stop
 element_apart (elements.Range b) rest h stop = bounds_apart b rest h stop
 element_apart (elements.Set ns) rest h stop = set_apart ns rest h
 
-set_of_apart : (e : Element) (rest : List ℕ) → IsFineElement e → NumberStops rest → AreApart (set_of_marks e) rest
+set_of_apart : (e : Element) (rest : List ℕ) → IsSpelledElement e → NumberStops rest → AreApart (set_of_marks e) rest
 set_of_apart e rest h stop = spaced (codes "set") (name (codes "of") ∷ space ∷ element_marks e) rest set_name (spaced (codes "of") (element_marks e) rest of_name (element_apart e rest h stop))
 
-pub parameter_type_apart : (t : ParameterType) (rest : List ℕ) → IsFineParameterType t → NumberStops rest → AreApart (parameter_type_marks t) rest
+pub parameter_type_apart : (t : ParameterType) (rest : List ℕ) → IsSpelledParameterType t → NumberStops rest → AreApart (parameter_type_marks t) rest
 parameter_type_apart parameters.Bool rest h stop = reserved_apart (codes "bool") rest bool_name stop
 parameter_type_apart parameters.Int rest h stop = reserved_apart (codes "int") rest int_name stop
 parameter_type_apart parameters.Float rest h stop = reserved_apart (codes "float") rest float_name stop
 parameter_type_apart (parameters.SetOf e) rest h stop = set_of_apart e rest h stop
 
-domain_apart : (t : VariableType) (rest : List ℕ) → IsFineVariableType t → NumberStops rest → AreApart (domain_marks t) rest
+domain_apart : (t : VariableType) (rest : List ℕ) → IsSpelledVariableType t → NumberStops rest → AreApart (domain_marks t) rest
 domain_apart variables.Bool rest h stop = reserved_apart (codes "bool") rest bool_name stop
 domain_apart (variables.Plain e) rest h stop = element_apart e rest h stop
 domain_apart (variables.SetOf e) rest h stop = set_of_apart e rest h stop
 
-pub variable_type_apart : (t : VariableType) (rest : List ℕ) → IsFineVariableType t → NumberStops rest → AreApart (variable_type_marks t) rest
+pub variable_type_apart : (t : VariableType) (rest : List ℕ) → IsSpelledVariableType t → NumberStops rest → AreApart (variable_type_marks t) rest
 variable_type_apart t rest h stop = spaced (codes "var") (domain_marks t) rest var_name (domain_apart t rest h stop)
 
-pub basic_apart : (b : Basic) (rest : List ℕ) → IsFineBasic b → NumberStops rest → AreApart (basic_marks b) rest
+pub basic_apart : (b : Basic) (rest : List ℕ) → IsSpelledBasic b → NumberStops rest → AreApart (basic_marks b) rest
 basic_apart basics.True rest h stop = reserved_apart (codes "true") rest true_name stop
 basic_apart basics.False rest h stop = reserved_apart (codes "false") rest false_name stop
 basic_apart (basics.Name n) rest h stop = reserved_apart n.name rest h.0 stop
@@ -277,7 +237,7 @@ basic_apart (basics.Number n) rest h stop = number_apart n rest h stop
 basic_apart (basics.Range b) rest h stop = bounds_apart b rest h stop
 basic_apart (basics.Set ns) rest h stop = set_apart ns rest h
 
-pub expression_apart : (e : Expression) (rest : List ℕ) → IsFineExpression e → NumberStops rest → AreApart (expression_marks e) rest
+pub expression_apart : (e : Expression) (rest : List ℕ) → IsSpelledExpression e → NumberStops rest → AreApart (expression_marks e) rest
 expression_apart (expressions.Basic b) rest h stop = basic_apart b rest h stop
 expression_apart (expressions.List bs) rest h stop =
-    (tt, tt, AreApart-append (listed basic_marks bs) (symbol what.RightBracket ∷ []) rest (listed_apart basic_marks IsFineBasic basic_apart bs (93 ∷ rest) h (at_bracket rest)) (tt, tt, tt))
+    (tt, tt, AreApart-append (listed basic_marks bs) (symbol what.RightBracket ∷ []) rest (listed_apart basic_marks IsSpelledBasic basic_apart bs (93 ∷ rest) h (at_bracket rest)) (tt, tt, tt))

@@ -112,7 +112,7 @@ pub parts_back : (A B : List Word → Type 0) (ms ns : List Mark) (ws : List Wor
 parts_back A B ms ns ws first then_rest h =
     let p = alike_parts ws ms ns h in (p.front, p.back, p.parts, first p.front p.front_is, then_rest p.back p.back_is)
 
-dots_kind : code (kind_by what.DotDot []) ≡ dot_dot_code
+pub dots_kind : code (kind_by what.DotDot []) ≡ dot_dot_code
 unfolding kind_by
 dots_kind = refl
 
@@ -180,7 +180,7 @@ set_kind : code (kind_by what.Name (codes "set")) ≡ set_code
 unfolding kind_by
 set_kind = refl
 
-of_kind : code (kind_by what.Name (codes "of")) ≡ of_code
+pub of_kind : code (kind_by what.Name (codes "of")) ≡ of_code
 unfolding kind_by
 of_kind = refl
 

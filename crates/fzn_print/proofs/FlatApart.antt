@@ -1,5 +1,6 @@
 -- No word of flat arguments or of a predicate's body goes on into what follows it.
 use Rattle.std.proofs.Common.{◌≡◌, ◌≢◌, ℕ, suc, ◌+◌, ◌-◌, ◌≤◌, Bool, true, false, cond, List, [], ◌∷◌, ◌++◌, length, take, drop, Option, Some, None, refl, sym, ap, subst, ◌∙◌, append_assoc, arith}
+use Rattle.std.proofs.lemmas.Option.{cond_some}
 use Rattle.std.specs.Prelude.{◌==◌}
 use Rattle.std.specs.List.{AllByRecursion}
 use Rattle.std.proofs.lemmas.Bool.{eqb-true}
@@ -26,7 +27,7 @@ use Rattle.fzn_print.specs.Canonical.{word_marks, flat_marks, spaced_word, space
 use Rattle.fzn_print.proofs.Codes.{coded, Coded, name_code, left_brace_code, right_brace_code, comma_code, colon_code, dot_dot_code, left_paren_code, right_paren_code, left_bracket_code, right_bracket_code, true_code, false_code, text_code}
 use Rattle.fzn_print.proofs.Texts.{each-append, text_of-append}
 use Rattle.fzn_print.proofs.Apart.{AreApart, AreApart-append, at_space}
-use Rattle.fzn_print.proofs.Fine.{AreKept, IsGood, kept_parts}
+use Rattle.fzn_syntax.proofs.Spelled.{AreKept, IsKeptWord, kept_parts}
 use Rattle.fzn_print.proofs.WordStops.{symbol_stops, any_stops, symbol_free, space_stops, closing_stops}
 
 -- words that stand before what ends a number are apart
@@ -38,7 +39,7 @@ coded_code : (b : Bool) → ◌≡◌ {A = Option (Unit {0})} (cond b (Some tt) 
 coded_code true e = refl
 coded_code false e = absurd cc
 
-pub word_ends : (w : Word) → IsGood w → code (kind w) ≢ colon_code → Ends (w ∷ [])
+pub word_ends : (w : Word) → IsKeptWord w → code (kind w) ≢ colon_code → Ends (w ∷ [])
 word_ends w good other rest stop = (good.0, any_stops w.what w.text rest other stop, tt)
 
 coded_ends : (n : ℕ) (ws : List Word) → n ≢ colon_code → Coded n ws → AreKept ws → Ends ws
@@ -61,13 +62,9 @@ number_code _ t n e = absurd cc
 number_ends : (n : Number) (ws : List Word) → IsNumber n ws → AreKept ws → Ends ws
 number_ends n ws (s, worth, e) k = subst Ends (sym e) (word_ends s (subst AreKept e k).0 (number_code s.what s.text n worth))
 
-worth_true : (b : Bool) (x y : Identifier) → cond b (Some x) None ≡ Some y → b ≡ true
-worth_true true x y e = refl
-worth_true false x y e = absurd cc
-
 name_ends : (n : Identifier) (ws : List Word) → IsName n ws → AreKept ws → Ends ws
 name_ends n ws (s, worth, e) k =
-    let is : code (kind s) ≡ name_code = eqb-true (code (kind s)) name_code (worth_true (code (kind s) == name_code) (record { name = s.text; at = s.at }) n worth) in
+    let is : code (kind s) ≡ name_code = eqb-true (code (kind s)) name_code (cond_some (code (kind s) == name_code) (record { name = s.text; at = s.at }) n worth).0 in
     subst Ends (sym e) (word_ends s (subst AreKept e k).0 (λ d. absurd (let z : name_code ≡ colon_code = sym is ∙ d in omega arith)))
 
 -- two parts, the second of which ends what stands before it
@@ -243,7 +240,7 @@ body_parts ws (e, (o, r, e', (s, ws_is, es), (i, c, e'', h, (t, wt, et)))) = rec
   last_is = eqb-true (code (kind t)) right_paren_code (coded_code (code (kind t) == right_paren_code) wt);
 }
 
-free_word : (w : Word) → IsGood w → 4 ≤ code (kind w) → code (kind w) ≤ 15 → code (kind w) ≢ colon_code → IsFree (w ∷ [])
+free_word : (w : Word) → IsKeptWord w → 4 ≤ code (kind w) → code (kind w) ≤ 15 → code (kind w) ≢ colon_code → IsFree (w ∷ [])
 free_word w good low high other rest = (good.0, symbol_free w.what w.text rest low high other, tt)
 
 body_apart_at : (s : Word) (i : List Word) (t : Word) (rest : List ℕ) → code (kind s) ≡ left_paren_code → code (kind t) ≡ right_paren_code → AreKept (s ∷ (i ++ t ∷ []))

@@ -33,13 +33,12 @@ use Rattle.fzn_print.specs.Canonical.{word_marks, flat_marks, spaced_word, space
 use Rattle.fzn_print.specs.Aside.{name_aside, expression_aside, word_aside, words_aside, annotation_aside, annotations_aside, predicate_aside, parameter_aside, variable_aside, parameter_array_aside, variable_array_aside, declaration_aside, constraint_aside, goal_aside, solve_aside, items_aside}
 use Rattle.fzn_print.proofs.Texts.{each-append}
 use Rattle.fzn_print.proofs.Codes.{Coded, double_colon_code, semicolon_code, colon_code, equal_code, predicate_code, array_code, left_bracket_code, right_bracket_code, dot_dot_code, of_code, constraint_code, left_paren_code, right_paren_code, satisfy_code, minimize_code, maximize_code, solve_code}
-use Rattle.fzn_print.proofs.Apart.{IsFineName, IsFineExpression}
-use Rattle.fzn_print.proofs.Back.{AreAlike, AlikeParts, alike_parts, sign_back, parameter_type_back, variable_type_back}
-use Rattle.fzn_print.proofs.Placed.{Again, name_again, listed_again, expression_again}
+use Rattle.fzn_syntax.proofs.Spelled.{IsSpelledName, IsSpelledExpression, AreKept, kept_parts}
+use Rattle.fzn_print.proofs.Back.{AreAlike, AlikeParts, alike_parts, sign_back, parameter_type_back, variable_type_back, dots_kind, of_kind}
+use Rattle.fzn_print.proofs.Placed.{Again, name_again, listed_again, expression_again, open_bracket_kind, close_bracket_kind}
 use Rattle.fzn_print.proofs.SameWords.{AreSame, flat_same, arguments_same, body_same}
 use Rattle.fzn_print.proofs.FlatApart.{BodyParts, body_parts, body_shape}
-use Rattle.fzn_print.proofs.Fine.{AreKept, kept_parts}
-use Rattle.fzn_print.proofs.ItemsFine.{IsFineArguments, IsFineAnnotation, AreFineAnnotations, IsFinePredicate, IsFineParameter, IsFineValue, IsFineVariable, IsFineRange, IsFineParameterArray, IsFineVariableArray, IsFineDeclaration, IsFineConstraint, IsFineGoal, IsFineSolve, IsFineItems}
+use Rattle.fzn_syntax.proofs.SpelledItems.{IsSpelledArguments, IsSpelledAnnotation, AreSpelledAnnotations, IsSpelledPredicate, IsSpelledParameter, IsSpelledValue, IsSpelledVariable, IsSpelledRange, IsSpelledParameterArray, IsSpelledVariableArray, IsSpelledDeclaration, IsSpelledConstraint, IsSpelledGoal, IsSpelledSolve, IsSpelledItems}
 
 -- ---- the first of several parts
 
@@ -60,7 +59,7 @@ record Named (n : Identifier) (ws : List Word) (ms : List Mark) : Type 0 where
   again : Again IsName name_aside n front
   rest : AreAlike back ms
 
-named : (n : Identifier) (ms : List Mark) (ws : List Word) → IsFineName n.name → AreAlike ws (name n.name ∷ ms) → Named n ws ms
+named : (n : Identifier) (ms : List Mark) (ws : List Word) → IsSpelledName n.name → AreAlike ws (name n.name ∷ ms) → Named n ws ms
 named n ms ws fine (v, vs, parts, is, same, h) = record { front = v ∷ []; back = vs; parts = parts; again = name_again n (v ∷ []) fine (v, [], refl, is, same, refl); rest = h }
 
 double_colon_is : code (kind_by what.DoubleColon []) ≡ double_colon_code
@@ -79,18 +78,6 @@ equal_is : code (kind_by what.Equal []) ≡ equal_code
 unfolding kind_by
 equal_is = refl
 
-left_bracket_is : code (kind_by what.LeftBracket []) ≡ left_bracket_code
-unfolding kind_by
-left_bracket_is = refl
-
-right_bracket_is : code (kind_by what.RightBracket []) ≡ right_bracket_code
-unfolding kind_by
-right_bracket_is = refl
-
-dot_dot_is : code (kind_by what.DotDot []) ≡ dot_dot_code
-unfolding kind_by
-dot_dot_is = refl
-
 left_paren_is : code (kind_by what.LeftParen []) ≡ left_paren_code
 unfolding kind_by
 left_paren_is = refl
@@ -106,10 +93,6 @@ predicate_is = refl
 array_is : code (kind_by what.Name (codes "array")) ≡ array_code
 unfolding kind_by
 array_is = refl
-
-of_is : code (kind_by what.Name (codes "of")) ≡ of_code
-unfolding kind_by
-of_is = refl
 
 constraint_is : code (kind_by what.Name (codes "constraint")) ≡ constraint_code
 unfolding kind_by
@@ -143,7 +126,7 @@ same_aside (w ∷ ws) us (v, vs, e, is, same, h) = rw (e, is, same, same_aside w
 abbrev some_words : List Word → Option (List Word)
 some_words l = Some l
 
-maybe_arguments : (o : Option (List Word)) (us : List Word) → IsFineArguments o → AreAlike us (arguments_marks o) → Again (Maybe IsArguments) (option_map words_aside) o us
+maybe_arguments : (o : Option (List Word)) (us : List Word) → IsSpelledArguments o → AreAlike us (arguments_marks o) → Again (Maybe IsArguments) (option_map words_aside) o us
 maybe_arguments None us fine h = record { thing = None; same = refl; is = h }
 maybe_arguments (Some ws) us (d, k) h =
     let s = flat_same ws us k h in
@@ -159,7 +142,7 @@ each_again f D Fine aside again (x ∷ xs) ws (one, fine) h =
     let b = each_again f D Fine aside again xs p.back fine p.back_is in
     record { thing = a.thing ∷ b.thing; same = rw (a.same, b.same) refl; is = (p.front, p.back, p.parts, a.is, b.is) }
 
-annotation_again : (a : Annotation) (ws : List Word) → IsFineAnnotation a → AreAlike ws (annotation_marks a) → Again IsAnnotation annotation_aside a ws
+annotation_again : (a : Annotation) (ws : List Word) → IsSpelledAnnotation a → AreAlike ws (annotation_marks a) → Again IsAnnotation annotation_aside a ws
 annotation_again a ws (fine, args) h =
     let s = sign double_colon_code what.DoubleColon [] (space ∷ name a.name.name ∷ arguments_marks a.arguments) ws double_colon_is h in
     let n = named a.name (arguments_marks a.arguments) s.back fine s.rest in
@@ -170,8 +153,8 @@ annotation_again a ws (fine, args) h =
       is = (s.front, s.back, s.parts, s.is, (n.front, n.back, n.parts, n.again.is, o.is));
     }
 
-annotations_again : (ns : List Annotation) (ws : List Word) → AreFineAnnotations ns → AreAlike ws (annotations_marks ns) → Again AreAnnotations annotations_aside ns ws
-annotations_again ns ws fine h = each_again annotation_marks IsAnnotation IsFineAnnotation annotation_aside annotation_again ns ws fine h
+annotations_again : (ns : List Annotation) (ws : List Word) → AreSpelledAnnotations ns → AreAlike ws (annotations_marks ns) → Again AreAnnotations annotations_aside ns ws
+annotations_again ns ws fine h = each_again annotation_marks IsAnnotation IsSpelledAnnotation annotation_aside annotation_again ns ws fine h
 
 -- ---- bodies
 
@@ -200,7 +183,7 @@ body_again ws us d k h =
     let s = flat_same ws us k (body_alike ws us d h) in
     record { thing = us; same = same_aside ws us s; is = body_same ws us d s }
 
-predicate_again : (p : Predicate) (ws : List Word) → IsFinePredicate p → AreAlike ws (predicate_marks p) → Again IsPredicate predicate_aside p ws
+predicate_again : (p : Predicate) (ws : List Word) → IsSpelledPredicate p → AreAlike ws (predicate_marks p) → Again IsPredicate predicate_aside p ws
 predicate_again p ws (fine, body, kept) h =
     let s = sign predicate_code what.Name (codes "predicate") (space ∷ name p.name.name ∷ (body_marks p.body ++ ended)) ws predicate_is h in
     let n = named p.name (body_marks p.body ++ ended) s.back fine s.rest in
@@ -219,7 +202,7 @@ record Declared (n : Identifier) (ws : List Word) (ms : List Mark) : Type 0 wher
   sign : Sign colon_code ws (space ∷ name n.name ∷ ms)
   named : Named n sign.back ms
 
-declared : (n : Identifier) (ms : List Mark) (ws : List Word) → IsFineName n.name → AreAlike ws (declared_marks n ++ ms) → Declared n ws ms
+declared : (n : Identifier) (ms : List Mark) (ws : List Word) → IsSpelledName n.name → AreAlike ws (declared_marks n ++ ms) → Declared n ws ms
 declared n ms ws fine h =
     let s = sign colon_code what.Colon [] (space ∷ name n.name ∷ ms) ws colon_is h in
     record { sign = s; named = named n ms s.back fine s.rest }
@@ -227,17 +210,17 @@ declared n ms ws fine h =
 abbrev some_expression : Expression → Option Expression
 some_expression e = Some e
 
-value_again : (x : Expression) (ws : List Word) → IsFineExpression x → AreAlike ws (value_marks x) → Again IsValue expression_aside x ws
+value_again : (x : Expression) (ws : List Word) → IsSpelledExpression x → AreAlike ws (value_marks x) → Again IsValue expression_aside x ws
 value_again x ws fine h =
     let s = sign equal_code what.Equal [] (space ∷ expression_marks x) ws equal_is h in
     let e = expression_again x s.back fine s.rest in
     record { thing = e.thing; same = e.same; is = (s.front, s.back, s.parts, s.is, e.is) }
 
-maybe_value_again : (o : Option Expression) (ws : List Word) → IsFineValue o → AreAlike ws (maybe_value_marks o) → Again (Maybe IsValue) (option_map expression_aside) o ws
+maybe_value_again : (o : Option Expression) (ws : List Word) → IsSpelledValue o → AreAlike ws (maybe_value_marks o) → Again (Maybe IsValue) (option_map expression_aside) o ws
 maybe_value_again None ws fine h = record { thing = None; same = refl; is = h }
 maybe_value_again (Some x) ws fine h = let v = value_again x ws fine h in record { thing = Some v.thing; same = ap (λ (e : Expression). some_expression e) v.same; is = v.is }
 
-parameter_again : (p : Parameter) (ws : List Word) → IsFineParameter p → AreAlike ws (parameter_marks p) → Again IsParameter parameter_aside p ws
+parameter_again : (p : Parameter) (ws : List Word) → IsSpelledParameter p → AreAlike ws (parameter_marks p) → Again IsParameter parameter_aside p ws
 parameter_again p ws (type, fine, value) h =
     let t = alike_parts ws (parameter_type_marks p.element) (declared_marks p.name ++ (value_marks p.value ++ ended)) h in
     let d = declared p.name (value_marks p.value ++ ended) t.back fine t.back_is in
@@ -262,7 +245,7 @@ parameter_again p ws (type, fine, value) h =
       );
     }
 
-variable_again : (v : Variable) (ws : List Word) → IsFineVariable v → AreAlike ws (variable_marks v) → Again IsVariable variable_aside v ws
+variable_again : (v : Variable) (ws : List Word) → IsSpelledVariable v → AreAlike ws (variable_marks v) → Again IsVariable variable_aside v ws
 variable_again v ws (type, fine, annotations, value) h =
     let t = alike_parts ws (variable_type_marks v.element) (declared_marks v.name ++ (annotations_marks v.annotations ++ (maybe_value_marks v.value ++ ended))) h in
     let d = declared v.name (annotations_marks v.annotations ++ (maybe_value_marks v.value ++ ended)) t.back fine t.back_is in
@@ -299,16 +282,16 @@ number : (z : ℤ) (ms : List Mark) (ws : List Word) → AreAlike ws (token (wha
 number z ms ws (v, vs, parts, is, same, h) = record { front = v ∷ []; back = vs; parts = parts; is = (v, rw is refl, refl); rest = h }
 
 of_again : (ws : List Word) → AreAlike ws of_marks → Coded of_code ws
-of_again ws (v, vs, parts, is, same, none) = sign_back of_code what.Name (codes "of") ws of_is (v, vs, parts, is, same, none)
+of_again ws (v, vs, parts, is, same, none) = sign_back of_code what.Name (codes "of") ws of_kind (v, vs, parts, is, same, none)
 
 index_again : (r : IndexRange) (ws : List Word) → AreAlike ws (index_marks r) → IsIndexRange r ws
 index_again r ws h =
     let a = sign array_code what.Name (codes "array") (space ∷ (range_marks r ++ of_marks)) ws array_is h in
-    let b = sign left_bracket_code what.LeftBracket [] (token (what.Int r.first) [] ∷ symbol what.DotDot ∷ token (what.Int r.last) [] ∷ symbol what.RightBracket ∷ of_marks) a.back left_bracket_is a.rest in
+    let b = sign left_bracket_code what.LeftBracket [] (token (what.Int r.first) [] ∷ symbol what.DotDot ∷ token (what.Int r.last) [] ∷ symbol what.RightBracket ∷ of_marks) a.back open_bracket_kind a.rest in
     let c = number r.first (symbol what.DotDot ∷ token (what.Int r.last) [] ∷ symbol what.RightBracket ∷ of_marks) b.back b.rest in
-    let d = sign dot_dot_code what.DotDot [] (token (what.Int r.last) [] ∷ symbol what.RightBracket ∷ of_marks) c.back dot_dot_is c.rest in
+    let d = sign dot_dot_code what.DotDot [] (token (what.Int r.last) [] ∷ symbol what.RightBracket ∷ of_marks) c.back dots_kind c.rest in
     let e = number r.last (symbol what.RightBracket ∷ of_marks) d.back d.rest in
-    let f = sign right_bracket_code what.RightBracket [] of_marks e.back right_bracket_is e.rest in (
+    let f = sign right_bracket_code what.RightBracket [] of_marks e.back close_bracket_kind e.rest in (
       a.front,
       a.back,
       a.parts,
@@ -340,13 +323,13 @@ index_again r ws h =
       ),
     )
 
-parameter_array_again : (a : ParameterArray) (ws : List Word) → IsFineParameterArray a → AreAlike ws (parameter_array_marks a) → Again IsParameterArray parameter_array_aside a ws
+parameter_array_again : (a : ParameterArray) (ws : List Word) → IsSpelledParameterArray a → AreAlike ws (parameter_array_marks a) → Again IsParameterArray parameter_array_aside a ws
 parameter_array_again a ws (range, entries) h =
     let p = alike_parts ws (index_marks a.index) (parameter_marks a.entries) h in
     let e = parameter_again a.entries p.back entries p.back_is in
     record { thing = record { index = a.index; entries = e.thing }; same = rw e.same refl; is = (p.front, p.back, p.parts, index_again a.index p.front p.front_is, e.is) }
 
-variable_array_again : (v : VariableArray) (ws : List Word) → IsFineVariableArray v → AreAlike ws (variable_array_marks v) → Again IsVariableArray variable_array_aside v ws
+variable_array_again : (v : VariableArray) (ws : List Word) → IsSpelledVariableArray v → AreAlike ws (variable_array_marks v) → Again IsVariableArray variable_array_aside v ws
 variable_array_again v ws (range, type, fine, annotations, value) h =
     let i = alike_parts ws (index_marks v.index) (variable_type_marks v.element ++ (declared_marks v.name ++ (annotations_marks v.annotations ++ (value_marks v.value ++ ended)))) h in
     let t = alike_parts i.back (variable_type_marks v.element) (declared_marks v.name ++ (annotations_marks v.annotations ++ (value_marks v.value ++ ended))) i.back_is in
@@ -379,7 +362,7 @@ variable_array_again v ws (range, type, fine, annotations, value) h =
       );
     }
 
-declaration_again : (x : Declaration) (ws : List Word) → IsFineDeclaration x → AreAlike ws (declaration_marks x) → Again IsDeclaration declaration_aside x ws
+declaration_again : (x : Declaration) (ws : List Word) → IsSpelledDeclaration x → AreAlike ws (declaration_marks x) → Again IsDeclaration declaration_aside x ws
 declaration_again (declarations.Parameter p) ws fine h = let a = parameter_again p ws fine h in record { thing = declarations.Parameter a.thing; same = ap (λ (y : Parameter). declarations.Parameter y) a.same; is = a.is }
 declaration_again (declarations.Variable v) ws fine h = let a = variable_again v ws fine h in record { thing = declarations.Variable a.thing; same = ap (λ (y : Variable). declarations.Variable y) a.same; is = a.is }
 declaration_again (declarations.ParameterArray p) ws fine h = let a = parameter_array_again p ws fine h in record { thing = declarations.ParameterArray a.thing; same = ap (λ (y : ParameterArray). declarations.ParameterArray y) a.same; is = a.is }
@@ -387,13 +370,13 @@ declaration_again (declarations.VariableArray v) ws fine h = let a = variable_ar
 
 -- ---- constraints and the goal
 
-constraint_again : (c : Constraint) (ws : List Word) → IsFineConstraint c → AreAlike ws (constraint_marks c) → Again IsConstraint constraint_aside c ws
+constraint_again : (c : Constraint) (ws : List Word) → IsSpelledConstraint c → AreAlike ws (constraint_marks c) → Again IsConstraint constraint_aside c ws
 constraint_again c ws (fine, arguments, annotations) h =
     let s = sign constraint_code what.Name (codes "constraint") (space ∷ name c.name.name ∷ symbol what.LeftParen ∷ (listed expression_marks c.arguments ++ symbol what.RightParen ∷ (annotations_marks c.annotations ++ ended))) ws constraint_is h in
     let n = named c.name (symbol what.LeftParen ∷ (listed expression_marks c.arguments ++ symbol what.RightParen ∷ (annotations_marks c.annotations ++ ended))) s.back fine s.rest in
     let o = sign left_paren_code what.LeftParen [] (listed expression_marks c.arguments ++ symbol what.RightParen ∷ (annotations_marks c.annotations ++ ended)) n.back left_paren_is n.rest in
     let p = alike_parts o.back (listed expression_marks c.arguments) (symbol what.RightParen ∷ (annotations_marks c.annotations ++ ended)) o.rest in
-    let x = listed_again expression_marks IsExpression IsFineExpression expression_aside expression_again c.arguments p.front arguments p.front_is in
+    let x = listed_again expression_marks IsExpression IsSpelledExpression expression_aside expression_again c.arguments p.front arguments p.front_is in
     let r = sign right_paren_code what.RightParen [] (annotations_marks c.annotations ++ ended) p.back right_paren_is p.back_is in
     let q = alike_parts r.back (annotations_marks c.annotations) ended r.rest in
     let a = annotations_again c.annotations q.front annotations q.front_is in
@@ -427,7 +410,7 @@ constraint_again c ws (fine, arguments, annotations) h =
       );
     }
 
-goal_again : (g : Goal) (ws : List Word) → IsFineGoal g → AreAlike ws (goal_marks g) → Again IsGoal goal_aside g ws
+goal_again : (g : Goal) (ws : List Word) → IsSpelledGoal g → AreAlike ws (goal_marks g) → Again IsGoal goal_aside g ws
 goal_again goals.Satisfy ws fine h = record { thing = goals.Satisfy; same = refl; is = sign_back satisfy_code what.Name (codes "satisfy") ws satisfy_is h }
 goal_again (goals.Minimize n) ws fine h =
     let s = sign minimize_code what.Name (codes "minimize") (space ∷ name n.name ∷ []) ws minimize_is h in
@@ -441,7 +424,7 @@ goal_again (goals.Maximize n) ws fine h =
 solve_word : (v : Word) → code (kind v) ≡ solve_code → solve_worth v ≡ Some v.at
 solve_word v e = rw (eq-eqb (code (kind v)) solve_code e) refl
 
-solve_again : (s : Solve) (ws : List Word) → IsFineSolve s → AreAlike ws (solve_marks s) → Again IsSolve solve_aside s ws
+solve_again : (s : Solve) (ws : List Word) → IsSpelledSolve s → AreAlike ws (solve_marks s) → Again IsSolve solve_aside s ws
 solve_again s ws (annotations, goal) (v, vs, parts, is, same, h) =
     let p = alike_parts vs (annotations_marks s.annotations) (space ∷ (goal_marks s.goal ++ ended)) h in
     let q = alike_parts p.back (goal_marks s.goal) ended p.back_is in
@@ -453,14 +436,14 @@ solve_again s ws (annotations, goal) (v, vs, parts, is, same, h) =
       is = (v ∷ [], vs, parts, (v, solve_word v (rw (is, same) solve_is), refl), (p.front, p.back, p.parts, a.is, (q.front, q.back, q.parts, g.is, ended_again q.back q.back_is)));
     }
 
-pub items_again : (t : Items) (ws : List Word) → IsFineItems t → AreAlike ws (items_marks t) → Again AreItems items_aside t ws
-items_again t ws (predicates, declared_fine, constraints, solve) h =
+pub items_again : (t : Items) (ws : List Word) → IsSpelledItems t → AreAlike ws (items_marks t) → Again AreItems items_aside t ws
+items_again t ws (predicates, declared_spelled, constraints, solve) h =
     let p = alike_parts ws (each predicate_marks t.predicates) (each declaration_marks t.declarations ++ (each constraint_marks t.constraints ++ solve_marks t.solve)) h in
     let q = alike_parts p.back (each declaration_marks t.declarations) (each constraint_marks t.constraints ++ solve_marks t.solve) p.back_is in
     let r = alike_parts q.back (each constraint_marks t.constraints) (solve_marks t.solve) q.back_is in
-    let a = each_again predicate_marks IsPredicate IsFinePredicate predicate_aside predicate_again t.predicates p.front predicates p.front_is in
-    let b = each_again declaration_marks IsDeclaration IsFineDeclaration declaration_aside declaration_again t.declarations q.front declared_fine q.front_is in
-    let c = each_again constraint_marks IsConstraint IsFineConstraint constraint_aside constraint_again t.constraints r.front constraints r.front_is in
+    let a = each_again predicate_marks IsPredicate IsSpelledPredicate predicate_aside predicate_again t.predicates p.front predicates p.front_is in
+    let b = each_again declaration_marks IsDeclaration IsSpelledDeclaration declaration_aside declaration_again t.declarations q.front declared_spelled q.front_is in
+    let c = each_again constraint_marks IsConstraint IsSpelledConstraint constraint_aside constraint_again t.constraints r.front constraints r.front_is in
     let d = solve_again t.solve r.back solve r.back_is in
     record {
       thing = record { predicates = a.thing; declarations = b.thing; constraints = c.thing; solve = d.thing };

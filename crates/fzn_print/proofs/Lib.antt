@@ -3,11 +3,9 @@ pub mod Codes
 pub mod WordStops
 pub mod Apart
 pub mod Back
-pub mod Fine
 pub mod Placed
 pub mod SameWords
 pub mod FlatApart
-pub mod ItemsFine
 pub mod ItemsApart
 pub mod ItemsAgain
 pub mod ReadBack

@@ -17,7 +17,7 @@ use Rattle.fzn_print.proofs.Codes.{Coded, comma_code, false_code, left_bracket_c
 use Rattle.fzn_print.specs.Marks.{Mark, token, space, symbol, name, others, listed}
 use Rattle.fzn_print.specs.Canonical.{basic_marks, expression_marks}
 use Rattle.fzn_print.specs.Aside.{name_aside, basic_aside, expression_aside}
-use Rattle.fzn_print.proofs.Apart.{IsFineName, IsFineBasic, IsFineExpression}
+use Rattle.fzn_syntax.proofs.Spelled.{IsSpelledName, IsSpelledBasic, IsSpelledExpression}
 use Rattle.fzn_print.proofs.Back.{AreAlike, alike_parts, sign_back, cons_back, parts_back, word_back, comma_kind, number_back, bounds_back, set_back}
 
 -- a thing of the words that is the same, places aside
@@ -29,7 +29,7 @@ pub record Again {X : Type 0} (D : X → List Word → Type 0) (aside : X → X)
 name_is : (v : Word) → code (kind v) ≡ name_code → name_worth v ≡ Some (record { name = v.text; at = v.at })
 name_is v e = rw (eq-eqb (code (kind v)) name_code e) refl
 
-pub name_again : (n : Identifier) (ws : List Word) → IsFineName n.name → AreAlike ws (name n.name ∷ []) → Again IsName name_aside n ws
+pub name_again : (n : Identifier) (ws : List Word) → IsSpelledName n.name → AreAlike ws (name n.name ∷ []) → Again IsName name_aside n ws
 name_again n ws fine (v, vs, parts, what_is, text_is, none) = record {
   thing = record { name = v.text; at = v.at };
   same = ap (λ (t : List ℕ). let i : Identifier = record { name = t; at = 0 } in i) text_is;
@@ -47,7 +47,7 @@ false_kind = refl
 named_again : (n : Identifier) (ws : List Word) → Again IsName name_aside n ws → Again IsBasic basic_aside (basics.Name n) ws
 named_again n ws a = record { thing = basics.Name a.thing; same = ap (λ (i : Identifier). basics.Name i) a.same; is = a.is }
 
-pub basic_again : (b : Basic) (ws : List Word) → IsFineBasic b → AreAlike ws (basic_marks b) → Again IsBasic basic_aside b ws
+pub basic_again : (b : Basic) (ws : List Word) → IsSpelledBasic b → AreAlike ws (basic_marks b) → Again IsBasic basic_aside b ws
 basic_again basics.True ws fine h = record { thing = basics.True; same = refl; is = word_back true_code (codes "true") ws true_kind h }
 basic_again basics.False ws fine h = record { thing = basics.False; same = refl; is = word_back false_code (codes "false") ws false_kind h }
 basic_again (basics.Name n) ws fine h = named_again n ws (name_again n ws fine h)
@@ -84,18 +84,18 @@ module _ {X : Type 0} (f : X → List Mark) (D : X → List Word → Type 0) (Fi
       let b = others_again xs p.back fine p.back_is in
       record { thing = a.thing ∷ b.thing; same = rw (a.same, b.same) refl; is = (p.front, p.back, p.parts, a.is, b.is) }
 
-open_bracket_kind : code (kind_by what.LeftBracket []) ≡ left_bracket_code
+pub open_bracket_kind : code (kind_by what.LeftBracket []) ≡ left_bracket_code
 unfolding kind_by
 open_bracket_kind = refl
 
-close_bracket_kind : code (kind_by what.RightBracket []) ≡ right_bracket_code
+pub close_bracket_kind : code (kind_by what.RightBracket []) ≡ right_bracket_code
 unfolding kind_by
 close_bracket_kind = refl
 
-list_again : (bs : List Basic) (ws : List Word) → AllByRecursion IsFineBasic bs → AreAlike ws (expression_marks (expressions.List bs)) → Again IsExpression expression_aside (expressions.List bs) ws
+list_again : (bs : List Basic) (ws : List Word) → AllByRecursion IsSpelledBasic bs → AreAlike ws (expression_marks (expressions.List bs)) → Again IsExpression expression_aside (expressions.List bs) ws
 list_again bs ws fine (v, vs, parts, what_is, text_is, h) =
     let p = alike_parts vs (listed basic_marks bs) (symbol what.RightBracket ∷ []) h in
-    let a = listed_again basic_marks IsBasic IsFineBasic basic_aside basic_again bs p.front fine p.front_is in
+    let a = listed_again basic_marks IsBasic IsSpelledBasic basic_aside basic_again bs p.front fine p.front_is in
     record {
       thing = expressions.List a.thing;
       same = ap (λ (l : List Basic). expressions.List l) a.same;
@@ -111,6 +111,6 @@ list_again bs ws fine (v, vs, parts, what_is, text_is, h) =
 basic_expression : (b : Basic) (ws : List Word) → Again IsBasic basic_aside b ws → Again IsExpression expression_aside (expressions.Basic b) ws
 basic_expression b ws a = record { thing = expressions.Basic a.thing; same = ap (λ (x : Basic). expressions.Basic x) a.same; is = a.is }
 
-pub expression_again : (e : Expression) (ws : List Word) → IsFineExpression e → AreAlike ws (expression_marks e) → Again IsExpression expression_aside e ws
+pub expression_again : (e : Expression) (ws : List Word) → IsSpelledExpression e → AreAlike ws (expression_marks e) → Again IsExpression expression_aside e ws
 expression_again (expressions.Basic b) ws fine h = basic_expression b ws (basic_again b ws fine h)
 expression_again (expressions.List bs) ws fine h = list_again bs ws fine h

@@ -1,5 +1,6 @@
 -- Words that are the same, places aside, are of the same productions.
 use Rattle.std.proofs.Common.{◌≡◌, ℕ, Bool, true, false, cond, List, [], ◌∷◌, ◌++◌, Option, Some, None, refl, sym, ap, subst, ◌∙◌}
+use Rattle.std.proofs.lemmas.Option.{cond_some}
 use Rattle.std.specs.Prelude.{◌==◌}
 use Rattle.std.specs.List.{AllByRecursion}
 use Rattle.fzn_lex.specs.declared.words.What.TheVariants as what
@@ -18,7 +19,7 @@ use Rattle.fzn_print.specs.Marks.{Mark, token, each}
 use Rattle.fzn_print.specs.Canonical.{word_marks, flat_marks}
 use Rattle.fzn_print.proofs.Codes.{coded, Coded, name_code, left_brace_code, right_brace_code, comma_code, dot_dot_code, left_paren_code, right_paren_code, left_bracket_code, right_bracket_code, true_code, false_code, text_code}
 use Rattle.fzn_print.proofs.Back.{AreAlike}
-use Rattle.fzn_print.proofs.Fine.{AreKept}
+use Rattle.fzn_syntax.proofs.Spelled.{AreKept}
 
 -- the words are the same, places aside
 abbrev pub AreSame : List Word → List Word → Type 0
@@ -62,17 +63,13 @@ number_alike v s e d = rw (e, d) refl
 number_same : (n : Number) (ws us : List Word) → IsNumber n ws → AreSame ws us → IsNumber n us
 number_same n ws us d h = one_same number_worth n ws us number_alike d h
 
-worth_true : (b : Bool) (x y : Identifier) → cond b (Some x) None ≡ Some y → b ≡ true
-worth_true true x y e = refl
-worth_true false x y e = absurd cc
-
 named : (v s : Word) → v.what ≡ s.what → v.text ≡ s.text → (code (kind s) == name_code) ≡ true → name_worth v ≡ Some (record { name = v.text; at = v.at })
 named v s e d h = let k : (code (kind v) == name_code) ≡ true = rw (e, d) h in rw k refl
 
 pub name_same : (n : Identifier) (ws us : List Word) → IsName n ws → AreSame ws us → (m : Identifier) × IsName m us
 name_same n ws us (s, worth, e) h =
     let k : AreSame (s ∷ []) us = subst (λ (l : List Word). AreSame l us) e h in
-    let is = worth_true (code (kind s) == name_code) (record { name = s.text; at = s.at }) n worth in
+    let is = (cond_some (code (kind s) == name_code) (record { name = s.text; at = s.at }) n worth).0 in
     (record { name = k.0.text; at = k.0.at }, (k.0, named k.0 s k.3 k.4 is, k.2 ∙ ap (λ (l : List Word). k.0 ∷ l) k.5))
 
 -- ---- joined

@@ -1,7 +1,7 @@
 -- Declarations by their names and places.
-use Rattle.std.proofs.Common.{◌≡◌, ◌↔◌, ℕ, zero, suc, Bool, false, List, [], ◌∷◌, slice_get, Option, None, Some, MatchOption, IsTrue, refl, sym, ◌∙◌, ap, subst}
+use Rattle.std.proofs.Common.{◌≡◌, ◌↔◌, ℕ, zero, suc, ◌<◌, Bool, false, List, [], ◌∷◌, length, get_or, slice_get, Option, None, Some, MatchOption, IsTrue, refl, sym, ◌∙◌, ap, subst}
 use Rattle.std.specs.Option.{option_map}
-use Rattle.std.proofs.lemmas.Option.{slice_get-map}
+use Rattle.std.proofs.lemmas.Option.{slice_get-map, slice_get_read}
 use Rattle.fzn_names.specs.Listed.{IsUnlisted}
 use Rattle.fzn_syntax.specs.declared.declaration.Declaration.{Declaration}
 use Rattle.fzn_scope.specs.Names.{name_of, names_of, AreDifferent, IsNamed, IsPlaced, IsUndeclared}
@@ -16,6 +16,14 @@ placed (d ∷ ds) n (suc k) e = placed ds n k e
 -- the name of a declaration stands at its place
 pub named_at : (ds : List Declaration) (n : List ℕ) (k : ℕ) (d : Declaration) → slice_get ds k ≡ Some d → name_of d ≡ n → slice_get (names_of ds) k ≡ Some n
 named_at ds n k d at is = slice_get-map name_of ds k ∙ ap (option_map name_of) at ∙ ap Some is
+
+-- the declarations behind the first have different names too
+pub tail_different : (d : Declaration) (ds : List Declaration) → AreDifferent (names_of (d ∷ ds)) → AreDifferent (names_of ds)
+tail_different d ds different i j n p q = let same : suc i ≡ suc j = different (suc i) (suc j) n p q in cc
+
+-- what is read at a place of a copy stands there
+pub item_at : {X : Type 0} (xs ys : List X) (k : ℕ) (x : X) → ys ≡ xs → k < length ys → x ≡ get_or ys k x → slice_get xs k ≡ Some x
+item_at xs ys k x same lt is = subst (λ l. slice_get l k ≡ Some x) same (slice_get_read ys (length ys) k x refl lt is)
 
 undeclared : (ds : List Declaration) (n : List ℕ) → IsUnlisted (names_of ds) n → IsUndeclared ds n
 undeclared ds n none d i = none (i.0, named_at ds n i.0 d i.1 i.2)

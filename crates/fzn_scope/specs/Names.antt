@@ -11,6 +11,7 @@ identifier_of (Variable v) = v.name
 identifier_of (ParameterArray a) = a.entries.name
 identifier_of (VariableArray a) = a.name
 
+-- the declared name
 abbrev pub name_of : Declaration → List ℕ
 name_of d = (identifier_of d).name
 

@@ -7,9 +7,11 @@ use Rattle.fzn_scope.specs.declared.sort.Sort.{Sort}
 use Rattle.fzn_scope.specs.Bases.{base_of_parameter, base_of_variable}
 use Rattle.fzn_scope.specs.Names.{IsNamed}
 
+-- a sort by its parts
 abbrev pub sort : Base → Bool → Bool → Sort
 sort base is_variable is_array = record { base = base; is_variable = is_variable; is_array = is_array }
 
+-- the sort of what is declared
 abbrev pub sort_of : Declaration → Sort
 sort_of (Parameter p) = sort (base_of_parameter p.element) false false
 sort_of (Variable v) = sort (base_of_variable v.element) true false

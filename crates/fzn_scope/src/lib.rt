@@ -11,7 +11,7 @@ pub use base::{Base, base_of_parameter, base_of_variable};
 pub use identifier::identifier_of;
 pub use scope::Scope;
 pub use sort::{Sort, sort_of};
-pub use typing::{Reading, are_all, fits, is_scalar, names};
+pub use typing::{Instantiation, are_all, fits, is_scalar, names};
 
 #[cfg(test)]
 mod tests;

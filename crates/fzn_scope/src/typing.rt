@@ -10,7 +10,7 @@ use fzn_syntax::{Basic, Declaration, Expression};
 
 /// What may stand at a place.
 #[derive(Clone, Copy, Debug, PartialEq, Eq, Drop)]
-pub enum Reading {
+pub enum Instantiation {
     /// Literals and parameters.
     Constant,
     /// Variables too.
@@ -35,8 +35,8 @@ pub fn names(scope: &Scope<'_>, name: &[u8], sort: Sort) -> bool
     }
 }
 
-fn names_scalar(scope: &Scope<'_>, reading: Reading, base: Base, name: &[u8]) -> bool
-    ensures { IsTrue result ↔ NamesScalar scope.now reading base name.now }
+fn names_scalar(scope: &Scope<'_>, instantiation: Instantiation, base: Base, name: &[u8]) -> bool
+    ensures { IsTrue result ↔ NamesScalar scope.now instantiation base name.now }
 {
     let parameter = names(
         scope,
@@ -47,9 +47,9 @@ fn names_scalar(scope: &Scope<'_>, reading: Reading, base: Base, name: &[u8]) ->
             is_array: false,
         },
     );
-    match reading {
-        Reading::Constant => parameter,
-        Reading::Entry => {
+    match instantiation {
+        Instantiation::Constant => parameter,
+        Instantiation::Entry => {
             parameter
                 || names(
                     scope,
@@ -65,13 +65,13 @@ fn names_scalar(scope: &Scope<'_>, reading: Reading, base: Base, name: &[u8]) ->
 }
 
 /// Whether the expression is a literal of this base type, or names a scalar that may stand here.
-pub fn fits(scope: &Scope<'_>, reading: Reading, base: Base, basic: &Basic) -> bool
-    ensures { IsTrue result ↔ Fits scope.now reading base basic.now }
+pub fn fits(scope: &Scope<'_>, instantiation: Instantiation, base: Base, basic: &Basic) -> bool
+    ensures { IsTrue result ↔ Fits scope.now instantiation base basic.now }
 {
     match basic {
         Basic::True => base == Base::Bool,
         Basic::False => base == Base::Bool,
-        Basic::Name(name) => names_scalar(scope, reading, base, name.name.as_bytes()),
+        Basic::Name(name) => names_scalar(scope, instantiation, base, name.name.as_bytes()),
         Basic::Number(number) => base == Base::Int && is_integer(number),
         Basic::Range(bounds) => {
             base == Base::Set && is_integer(&bounds.lower) && is_integer(&bounds.upper)
@@ -81,18 +81,30 @@ pub fn fits(scope: &Scope<'_>, reading: Reading, base: Base, basic: &Basic) -> b
 }
 
 /// Whether the expression is one such literal or name, and no list.
-pub fn is_scalar(scope: &Scope<'_>, reading: Reading, base: Base, expression: &Expression) -> bool
-    ensures { IsTrue result ↔ IsScalar scope.now reading base expression.now }
+pub fn is_scalar(
+    scope: &Scope<'_>,
+    instantiation: Instantiation,
+    base: Base,
+    expression: &Expression,
+) -> bool
+    ensures { IsTrue result ↔ IsScalar scope.now instantiation base expression.now }
 {
     match expression {
-        Expression::Basic(basic) => fits(scope, reading, base, basic),
+        Expression::Basic(basic) => fits(scope, instantiation, base, basic),
         Expression::List(_) => false,
     }
 }
 
 /// Whether each of them does.
-pub fn are_all(scope: &Scope<'_>, reading: Reading, base: Base, basics: &[Basic]) -> bool
-    ensures { IsTrue result ↔ AllFit scope.now reading base basics.now }
+pub fn are_all(
+    scope: &Scope<'_>,
+    instantiation: Instantiation,
+    base: Base,
+    basics: &[Basic],
+) -> bool
+    ensures { IsTrue result ↔ AllFit scope.now instantiation base basics.now }
 {
-    basics.iter().all(|basic| fits(scope, reading, base, basic))
+    basics
+        .iter()
+        .all(|basic| fits(scope, instantiation, base, basic))
 }

@@ -10,7 +10,8 @@ use Rattle.fzn_lex.specs.Tokens.{Spells}
 use Rattle.fzn_lex.specs.Cutting.{Cutting, bytes_of, tokens_of, limit, IsLexed}
 use Rattle.fzn_lex.proofs.OneAnswer.{one_answer}
 use Rattle.fzn_lex.proofs.TightPieces.{NumberStops, AreTight, token_piece, blank_piece, tight_cut}
-use Rattle.fzn_spelling.specs.Spelling.{spelling_of, IsKept}
+use Rattle.fzn_lex.specs.Kept.{IsKept}
+use Rattle.fzn_spelling.specs.Spelling.{spelling_of}
 use Rattle.fzn_spelling.proofs.Decimals.{integer_spelled}
 
 pub token_spelled : (what : What) (text : List ℕ) → IsKept what text → Spells what (spelling_of what text)
@@ -31,16 +32,7 @@ token_spelled DoubleColon text h = refl
 token_spelled Equal text h = refl
 token_spelled DotDot text h = refl
 
--- ---- pieces one after the other
-
-pub bytes_of-append : (ps qs : List Cutting) → bytes_of (ps ++ qs) ≡ bytes_of ps ++ bytes_of qs
-bytes_of-append [] qs = refl
-bytes_of-append (p ∷ ps) qs = rw (bytes_of-append ps qs) (sym (append_assoc p.text (bytes_of ps) (bytes_of qs)))
-
-pub AreTight-append : (ps qs : List Cutting) (rest : List ℕ) → AreTight ps (bytes_of qs ++ rest) → AreTight qs rest → AreTight (ps ++ qs) rest
-AreTight-append [] qs rest h k = k
-AreTight-append (p ∷ ps) qs rest (spelled, fine, stop, more) k =
-    (spelled, fine, rw (bytes_of-append ps qs, append_assoc (bytes_of ps) (bytes_of qs) rest) stop, AreTight-append ps qs rest more k)
+-- ---- what ends a name or a number
 
 -- a byte that is no part of a word and no point ends each name and number before it
 pub stops_at : (c : ℕ) (rest : List ℕ) → is_word c ≡ false → c ≢ 46 → NumberStops (c ∷ rest)
@@ -57,26 +49,6 @@ point_digit = refl
 -- two points do too
 pub stops_at_dots : (rest : List ℕ) → NumberStops (46 ∷ 46 ∷ rest)
 stops_at_dots rest = record { no_word = point_word; no_point = λ _. point_digit }
-
-end_word : is_word 0 ≡ false
-unfolding is_word is_letter is_digit
-end_word = refl
-
--- and the end
-pub stops_at_end : NumberStops []
-stops_at_end = record { no_word = end_word; no_point = λ e. absurd (omega arith) }
-
-never_memory : (tokens : List Token) → ◌≡◌ {A = Result (List Token) LexError} (Ok tokens) (Err Memory) → ⊥
-never_memory tokens e = cc
-
--- a text that tight pieces make has their tokens, where it is short
-pub tight_lexed : (ps : List Cutting) → AreTight ps [] → length (bytes_of ps) ≤ limit → IsLexed (bytes_of ps) (Ok (tokens_of 0 ps))
-tight_lexed ps h short = (short, record { pieces = ps; parts = refl; cut = tight_cut ps [] h; are = refl })
-
--- and it has no other answer
-pub tight_answer : (ps : List Cutting) → AreTight ps [] → length (bytes_of ps) ≤ limit → (r : Result (List Token) LexError)
-    → IsLexed (bytes_of ps) r → (r ≡ Err Memory → ⊥) → r ≡ Ok (tokens_of 0 ps)
-tight_answer ps h short r lexed memory = one_answer (bytes_of ps) r (Ok (tokens_of 0 ps)) lexed (tight_lexed ps h short) memory (λ e. absurd (never_memory (tokens_of 0 ps) e))
 
 -- ---- single pieces
 
@@ -112,7 +84,3 @@ tight_token DotDot text ps rest h stop more = (refl, tt, stop, more)
 
 pub tight_blank : (b : ℕ) (ps : List Cutting) (rest : List ℕ) → is_blank b ≡ true → AreTight ps rest → AreTight (blank_piece b ∷ ps) rest
 tight_blank b ps rest h more = ((b, refl, h), tt, tt, more)
-
--- a name is ended by what ends a number
-pub number_stops_name : (rest : List ℕ) → NumberStops rest → TokenStops Name rest
-number_stops_name rest h = h.no_word

@@ -3,7 +3,6 @@ use Rattle.std.specs.Prelude.{ℕ, List, [], ◌∷◌}
 use Rattle.std.specs.Fmt.{signed_decimal}
 use Rattle.fzn_lex.specs.declared.words.What.{What}
 use Rattle.fzn_lex.specs.declared.words.What.TheVariants.{Name, Int, Float, Text, LeftParen, RightParen, LeftBracket, RightBracket, LeftBrace, RightBrace, Comma, Semicolon, Colon, DoubleColon, Equal, DotDot}
-use Rattle.fzn_lex.specs.Tokens.{Spells, IsSmall}
 
 -- the bytes of a symbol
 abbrev pub symbol_of : What → List ℕ
@@ -28,11 +27,3 @@ spelling_of Float text = text
 spelling_of Text text = text
 spelling_of (Int z) text = signed_decimal z
 spelling_of what text = symbol_of what
-
--- the bytes spell the token, and an integer is small
-abbrev pub IsKept : What → List ℕ → Type 0
-IsKept Name text = Spells Name text
-IsKept Float text = Spells Float text
-IsKept Text text = Spells Text text
-IsKept (Int z) text = IsSmall z
-IsKept _ text = Unit {0}

@@ -4,7 +4,8 @@ ghost use Rattle.std.specs.Prelude.{◌≡◌, ◌++◌, List, ℕ, OnOk, OnErr}
 ghost use Rattle.std.specs.Fmt.{signed_decimal};
 ghost use Rattle.fzn_lex.specs.declared.words.What.{What};
 ghost use Rattle.fzn_lex.specs.Tokens.{Spells};
-ghost use Rattle.fzn_spelling.specs.Spelling.{spelling_of, IsKept};
+ghost use Rattle.fzn_lex.specs.Kept.{IsKept};
+ghost use Rattle.fzn_spelling.specs.Spelling.{spelling_of};
 
 use crate::symbols::symbol;
 use fzn_lex::What;

@@ -1,5 +1,6 @@
 -- What stands in parentheses and is kept as its words.
 use Rattle.std.proofs.Common.{◌≡◌, Bool, true, false, cond, List, [], ◌∷◌, ◌++◌, Some, None, refl, sym, ap, ◌∙◌}
+use Rattle.std.proofs.lemmas.Option.{cond_some}
 use Rattle.std.proofs.lemmas.List.{append-nil}
 use Rattle.reading.specs.Language.{◌⨾◌, One}
 use Rattle.reading.specs.Readers.{Answer, none, pair, made}
@@ -27,10 +28,6 @@ paren_is x ws d =
     let t = test_worth (is kinds.LeftParen d.0) d.0 x d.1 in
     ((d.0, rw t.0 refl, d.2), d.2 ∙ ap (λ (w : Word). w ∷ []) t.1)
 
-worth_true : (b : Bool) (x : Unit {0}) → cond b (Some tt) None ≡ Some x → b ≡ true
-worth_true true x e = refl
-worth_true false x e = absurd cc
-
 module _ (I : List Word → Type 0) where
   -- up to the closing parenthesis, with nothing behind it
   abbrev pub Closed : List Word → Type 0
@@ -51,7 +48,7 @@ module _ (I : List Word → Type 0) where
   enclosed_again : (flat ws : List Word) → Enclosed flat ws → (p : Word × List Word) × (p.0 ∷ p.1 ≡ flat) × Both (One itself) (Flat Closed) p ws
   enclosed_again flat ws (same, d) =
       let w = d.3.0 in
-      let is_paren = worth_true (is kinds.LeftParen w) tt d.3.1 in
+      let is_paren = (cond_some (is kinds.LeftParen w) tt tt d.3.1).0 in
       let c = d.4.1 in
       let parts : ws ≡ w ∷ d.1 = d.2 ∙ ap (λ (l : List Word). l ++ d.1) d.3.2 in
       ((w, d.1), sym parts ∙ sym same, (w ∷ [], d.1, parts, (w, rw is_paren refl, refl), (refl, (d.4.0, c, d.4.2, d.4.3, (c, [], sym (append-nil c), d.4.4, refl)))))

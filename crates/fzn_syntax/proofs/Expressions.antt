@@ -20,7 +20,7 @@ use Rattle.fzn_syntax.specs.Words.{code, kind, is}
 use Rattle.fzn_syntax.specs.Grammar.{Sign, IsName, IsNumber, IsBounds, IsSet, IsBasic, IsExpression}
 use Rattle.fzn_syntax.specs.Reading.{sign_at, name_at, number_at, is_number, set_at, number_or_range, upper_at, range_at, basic_at, more_basics_at, basics_at, leads_basic, some_basics_at, list_at, expression_at}
 use Rattle.fzn_syntax.proofs.Choices.{sure_choice_reads}
-use Rattle.fzn_syntax.proofs.Firsts.{sign_reads, name_reads, number_reads, leads, sign_first, name_first, number_first, front_first}
+use Rattle.fzn_syntax.proofs.Firsts.{sign_reads, name_reads, number_reads, leads, sign_first, name_first, number_first, front_first, comma_starts}
 use Rattle.fzn_syntax.proofs.Types.{set_reads, set_first, bounds_first}
 
 -- ---- a number, or a range
@@ -227,9 +227,6 @@ basic_reads =
     (λ x used rest d stops. basic1_first (λ n. n == 29) false refl refl refl refl refl x used rest d) (λ y ws d. d) basic1_in basic1_cases
 
 -- ---- lists of them
-
-comma_starts : (used rest : List Word) → Sign kinds.Comma used → begins (is kinds.Comma) (used ++ rest) ≡ true
-comma_starts used rest d = sign_first (λ n. n == 10) true kinds.Comma refl used rest d
 
 pub comma_apart : (w : Word) → is kinds.Comma w ≡ true → leads on_basic w ≡ false
 comma_apart w e = let same : code (kind w) ≡ 10 = eqb-true (code (kind w)) 10 e in rw same refl

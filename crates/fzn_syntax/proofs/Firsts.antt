@@ -1,5 +1,6 @@
 -- With which word things begin, and the readers of single words.
-use Rattle.std.proofs.Common.{◌≡◌, ℕ, Bool, true, false, cond, List, [], ◌++◌, Some, None, pos, refl, ap, append_assoc, codes}
+use Rattle.std.proofs.Common.{◌==◌, ◌≡◌, ℕ, Bool, true, false, cond, List, [], ◌++◌, Some, None, pos, refl, ap, append_assoc, codes}
+use Rattle.std.proofs.lemmas.Option.{cond_some}
 use Rattle.std.proofs.lemmas.Bool.{eqb-true, eq-eqb}
 use Rattle.fzn_lex.specs.declared.words.What.{What}
 use Rattle.fzn_lex.specs.declared.words.What.TheVariants as what
@@ -63,10 +64,6 @@ is_example k = let e = example k in (e.0, eq-eqb (code (kind e.0)) (code k) (ap 
 
 -- ---- readers of single words
 
-worth_of : {X : Type 0} (b : Bool) (x y : X) → cond b (Some x) None ≡ Some y → b ≡ true
-worth_of true x y e = refl
-worth_of false x y e = absurd cc
-
 pub sign_reads : (k : Kind) → Reads (λ (_ : Unit {0}). Sign k) none (sign_at k)
 unfolding sign_at
 sign_reads k = let e = is_example k in weak (one_reads (sign_worth k) tt e.0 (rw e.1 refl)) where
@@ -93,12 +90,16 @@ leads test w = test (code (kind w))
 
 pub sign_first : (test : ℕ → Bool) (b : Bool) (k : Kind) → test (code k) ≡ b → (used rest : List Word) → Sign k used → begins (leads test) (used ++ rest) ≡ b
 sign_first test b k passes used rest d =
-    let same : code (kind d.0) ≡ code k = eqb-true (code (kind d.0)) (code k) (worth_of (is k d.0) tt tt d.1) in
+    let same : code (kind d.0) ≡ code k = eqb-true (code (kind d.0)) (code k) (cond_some (is k d.0) tt tt d.1).0 in
     rw (d.2, same) passes
+
+-- a comma comes first
+pub comma_starts : (used rest : List Word) → Sign kinds.Comma used → begins (is kinds.Comma) (used ++ rest) ≡ true
+comma_starts used rest d = sign_first (λ n. n == 10) true kinds.Comma refl used rest d
 
 pub name_first : (test : ℕ → Bool) (b : Bool) → test 0 ≡ b → (n : Identifier) (used rest : List Word) → IsName n used → begins (leads test) (used ++ rest) ≡ b
 name_first test b passes n used rest d =
-    let same : code (kind d.0) ≡ 0 = eqb-true (code (kind d.0)) 0 (worth_of (is kinds.Name d.0) (record { name = d.0.text; at = d.0.at }) n d.1) in
+    let same : code (kind d.0) ≡ 0 = eqb-true (code (kind d.0)) 0 (cond_some (is kinds.Name d.0) (record { name = d.0.text; at = d.0.at }) n d.1).0 in
     rw (d.2, same) passes
 
 number_code : (test : ℕ → Bool) (b : Bool) → test 3 ≡ b → test 1 ≡ b → (w : What) (text : List ℕ) (n : Number) → number_of w text ≡ Some n → test (code (kind_by w text)) ≡ b

@@ -1,5 +1,6 @@
 -- The readers of annotations, predicates, declarations, constraints and the goal.
 use Rattle.std.proofs.Common.{◌≡◌, ℕ, Bool, true, false, cond, ◌||◌, ◌==◌, List, ◌++◌, Option, Some, None, ◌⊎◌, inl, inr, refl}
+use Rattle.std.proofs.lemmas.Option.{cond_some}
 use Rattle.std.proofs.lemmas.Bool.{eqb-true}
 use Rattle.reading.specs.Language.{◌⨾◌, One, Maybe, MaybeListed}
 use Rattle.reading.specs.Readers.{Answer, begins, none, pair, made, either}
@@ -34,7 +35,7 @@ use Rattle.fzn_syntax.specs.Balance.{IsBody, body_at}
 use Rattle.fzn_syntax.specs.Items.{IsAnnotation, AreAnnotations, IsPredicate, IsParameter, IsValue, IsVariable, IsIndexRange, IsParameterArray, IsVariableArray, IsDeclaration, IsConstraint, IsGoal, solve_worth, IsSolve}
 use Rattle.fzn_syntax.specs.ItemReading.{maybe_arguments_at, annotation_at, annotations_at, predicate_at, parameter_at, value_at, maybe_value_at, variable_at, index_at, variable_entries_at, entries_at, array_of, array_at, declaration_at, more_expressions_at, expressions_at, leads_expression, some_expressions_at, constraint_at, goal_at, solve_word_at, solve_at}
 use Rattle.fzn_syntax.proofs.Choices.{sure_choice_reads}
-use Rattle.fzn_syntax.proofs.Firsts.{sign_reads, name_reads, int_reads, leads, is_example, sign_first, front_first}
+use Rattle.fzn_syntax.proofs.Firsts.{sign_reads, name_reads, int_reads, leads, is_example, sign_first, front_first, comma_starts}
 use Rattle.fzn_syntax.proofs.Types.{parameter_first, parameter_type_reads, variable_type_reads, variable_type_first}
 use Rattle.fzn_syntax.proofs.Expressions.{on_basic, expression_first, expression_reads, comma_apart}
 use Rattle.fzn_syntax.proofs.ArgumentLaws.{arguments_reads}
@@ -336,9 +337,6 @@ declaration_loops = record { reads = declaration_reads; starts = declaration_fir
 
 -- ---- constraints
 
-comma_starts : (used rest : List Word) → Sign kinds.Comma used → begins (is kinds.Comma) (used ++ rest) ≡ true
-comma_starts used rest d = sign_first (λ n. n == 10) true kinds.Comma refl used rest d
-
 -- a comma and an expression
 abbrev pub IsMoreExpression : Expression → List Word → Type 0
 IsMoreExpression x = Sign kinds.Comma ⨾ IsExpression x
@@ -455,13 +453,9 @@ solve_reads =
       goal_first (goals.Minimize n) used rest d = aimed_first on_annotations false kinds.Minimize refl n used rest d
       goal_first (goals.Maximize n) used rest d = aimed_first on_annotations false kinds.Maximize refl n used rest d
 
-worth_of : {X : Type 0} (b : Bool) (x y : X) → cond b (Some x) None ≡ Some y → b ≡ true
-worth_of true x y e = refl
-worth_of false x y e = absurd cc
-
 solve_word_first : (test : ℕ → Bool) (b : Bool) → test 28 ≡ b → (at : ℕ) (used rest : List Word) → One solve_worth at used → begins (leads test) (used ++ rest) ≡ b
 solve_word_first test b passes at used rest d =
-    let same : code (kind d.0) ≡ 28 = eqb-true (code (kind d.0)) 28 (worth_of (is kinds.Solve d.0) d.0.at at d.1) in
+    let same : code (kind d.0) ≡ 28 = eqb-true (code (kind d.0)) 28 (cond_some (is kinds.Solve d.0) d.0.at at d.1).0 in
     rw (d.2, same) passes
 
 pub solve_first : (test : ℕ → Bool) (b : Bool) → test 28 ≡ b → (s : Solve) (used rest : List Word) → IsSolve s used → begins (leads test) (used ++ rest) ≡ b

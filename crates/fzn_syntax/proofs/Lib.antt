@@ -11,3 +11,5 @@ pub mod BalanceLaws
 pub mod ItemLaws
 pub mod TextLaws
 pub mod WordLoops
+pub mod Spelled
+pub mod SpelledItems

@@ -1,5 +1,6 @@
 -- Forwards: what stands in the language of a place begins with a word with which the machine goes on in it.
 use Rattle.std.proofs.Common.{◌≡◌, ℕ, Bool, true, false, cond, ◌==◌, List, [], ◌∷◌, ◌++◌, Option, Some, None, inl, inr, refl, ap, ◌∙◌, append_assoc}
+use Rattle.std.proofs.lemmas.Option.{cond_some}
 use Rattle.std.proofs.lemmas.Bool.{eqb-true}
 use Rattle.reading.specs.Language.{◌⨾◌, MaybeListed}
 use Rattle.reading.proofs.Machines.{Came}
@@ -28,16 +29,10 @@ Comes = Came step Follows
 -- ---- one word first
 
 pub sign_code : (k : Kind) (o : List Word) (d : Sign k o) → code (kind d.0) ≡ code k
-sign_code k o d = eqb-true (code (kind d.0)) (code k) (worth_of (is k d.0) tt tt d.1) where
-  worth_of : {X : Type 0} (b : Bool) (x y : X) → cond b (Some x) None ≡ Some y → b ≡ true
-  worth_of true x y e = refl
-  worth_of false x y e = absurd cc
+sign_code k o d = eqb-true (code (kind d.0)) (code k) (cond_some (is k d.0) tt tt d.1).0
 
 name_code : (n : Identifier) (a : List Word) (d : IsName n a) → code (kind d.0) ≡ 0
-name_code n a d = eqb-true (code (kind d.0)) 0 (worth_of (is kinds.Name d.0) (record { name = d.0.text; at = d.0.at }) n d.1) where
-  worth_of : {X : Type 0} (b : Bool) (x y : X) → cond b (Some x) None ≡ Some y → b ≡ true
-  worth_of true x y e = refl
-  worth_of false x y e = absurd cc
+name_code n a d = eqb-true (code (kind d.0)) 0 (cond_some (is kinds.Name d.0) (record { name = d.0.text; at = d.0.at }) n d.1).0
 
 module _ (place : Place) (b : Bool) (s : List Bool) where
   go_on : (n : ℕ) (o r ws : List Word) (w : Word) → ws ≡ o ++ r → o ≡ w ∷ [] → code (kind w) ≡ n → (q : Position) → moved (turn place b n) b s ≡ Some (Some q) → Follows q r → Comes (at place b s) ws

@@ -20,7 +20,7 @@ use Rattle.fzn_syntax.specs.Words.{is}
 use Rattle.fzn_syntax.specs.Grammar.{Sign, IsNumber, IsBounds, IsSet, IsElement, IsParameterType, IsDomain, IsVariableType}
 use Rattle.fzn_syntax.specs.Reading.{sign_at, number_at, is_number, bounds_at, more_numbers_at, numbers_at, some_numbers_at, set_at, element_at, set_of_at, parameter_type_at, domain_at, variable_type_at}
 use Rattle.fzn_syntax.proofs.Choices.{sure_choice_reads}
-use Rattle.fzn_syntax.proofs.Firsts.{sign_reads, number_reads, leads, sign_first, number_first, front_first}
+use Rattle.fzn_syntax.proofs.Firsts.{sign_reads, number_reads, leads, sign_first, number_first, front_first, comma_starts}
 
 -- ---- ranges and sets
 
@@ -30,9 +30,6 @@ bounds_reads =
     made_reads (Both IsNumber (Both (λ (_ : Unit {0}). Sign kinds.DotDot) IsNumber)) IsBounds none _ _
     (then_reads _ _ none _ _ number_reads (then_reads _ _ none _ _ (sign_reads kinds.DotDot) number_reads))
     (λ p ws d. d) (λ b ws d. ((b.lower, (tt, b.upper)), refl, d))
-
-comma_starts : (used rest : List Word) → Sign kinds.Comma used → begins (is kinds.Comma) (used ++ rest) ≡ true
-comma_starts used rest d = sign_first (λ n. n == 10) true kinds.Comma refl used rest d
 
 -- a comma and a number
 abbrev pub IsMoreNumber : Number → List Word → Type 0

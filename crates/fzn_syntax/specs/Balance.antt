@@ -13,11 +13,13 @@ use Rattle.fzn_syntax.specs.Words.{code, kind}
 use Rattle.fzn_syntax.specs.Grammar.{Sign}
 use Rattle.fzn_syntax.specs.Turns.{paren_at}
 
+-- the kind of word that opens a bracket
 abbrev pub opening : Bracket → Kind
 opening brackets.Paren = kinds.LeftParen
 opening brackets.Square = kinds.LeftBracket
 opening brackets.Brace = kinds.LeftBrace
 
+-- the kind of word that closes it
 abbrev pub closing : Bracket → Kind
 closing brackets.Paren = kinds.RightParen
 closing brackets.Square = kinds.RightBracket
@@ -39,13 +41,16 @@ IsBody flat ws = (flat ≡ ws) × (Sign kinds.LeftParen ⨾ Balanced ⨾ Sign ki
 
 -- ---- word by word
 
+-- another bracket is opened inside those that are open
 abbrev pub covered : Bracket → Around → Option (Option Around)
 covered b p = Some (Some (record { bracket = b; below = p.bracket ∷ p.below }))
 
+-- the innermost bracket is closed: none is left, or the next one is the innermost
 abbrev pub uncovered : List Bracket → Option Around
 uncovered [] = None
 uncovered (b ∷ below) = Some (record { bracket = b; below = below })
 
+-- what a word of this code makes of the brackets that are open
 abbrev pub around_by : Around → ℕ → Option (Option Around)
 around_by p n =
     if n == 4 then covered brackets.Paren p
@@ -55,6 +60,7 @@ around_by p n =
     else if is_inert n then Some (Some p)
     else None
 
+-- what a word makes of them
 abbrev pub around_step : Around → Word → Option (Option Around)
 around_step p w = around_by p (code (kind w))
 
@@ -62,5 +68,6 @@ around_step p w = around_by p (code (kind w))
 abbrev pub enclosed : Around
 enclosed = record { bracket = brackets.Paren; below = [] }
 
+-- reads '(' balanced ')'
 unfoldable pub body_at : List Word → Answer Word (List Word)
 body_at = made (λ p. p.0 ∷ p.1) (pair paren_at (run around_step enclosed))

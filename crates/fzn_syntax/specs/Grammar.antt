@@ -42,6 +42,7 @@ number_of (what.Int z) text = Some (numbers.Int z)
 number_of what.Float text = Some (numbers.Float text)
 number_of _ text = None
 
+-- a number is worth its value, or its bytes where it is a float
 abbrev pub number_worth : Word → Option Number
 number_worth w = number_of w.what w.text
 
@@ -49,12 +50,15 @@ number_worth w = number_of w.what w.text
 abbrev pub Sign : Kind → List Word → Type 0
 Sign k = One (sign_worth k) tt
 
+-- the word is this name
 abbrev pub IsName : Identifier → List Word → Type 0
 IsName = One name_worth
 
+-- the word is this integer
 abbrev pub IsInt : ℤ → List Word → Type 0
 IsInt = One int_worth
 
+-- the word is this number
 abbrev pub IsNumber : Number → List Word → Type 0
 IsNumber = One number_worth
 

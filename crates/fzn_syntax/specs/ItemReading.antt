@@ -25,44 +25,55 @@ use Rattle.fzn_syntax.specs.Turns.{arguments_at}
 use Rattle.fzn_syntax.specs.Balance.{body_at}
 use Rattle.fzn_syntax.specs.Items.{solve_worth}
 
+-- reads ['(' [arg {',' arg}*] ')']
 unfoldable pub maybe_arguments_at : List Word → Answer Word (Option (List Word))
 maybe_arguments_at = maybe (is kinds.LeftParen) arguments_at
 
+-- reads '::' Name ['(' [arg {',' arg}*] ')']
 unfoldable pub annotation_at : List Word → Answer Word Annotation
 annotation_at = made (λ p. record { name = p.1.0; arguments = p.1.1 }) (pair (sign_at kinds.DoubleColon) (pair name_at maybe_arguments_at))
 
+-- reads {'::' ann}*
 abbrev pub annotations_at : List Word → Answer Word (List Annotation)
 annotations_at = many (is kinds.DoubleColon) annotation_at
 
+-- reads 'predicate' Name '(' balanced ')' ';'
 unfoldable pub predicate_at : List Word → Answer Word Predicate
 predicate_at = made (λ p. record { name = p.1.0; body = p.1.1.0 }) (pair (sign_at kinds.Predicate) (pair name_at (pair body_at (sign_at kinds.Semicolon))))
 
+-- reads partype ':' Name '=' expr ';'
 unfoldable pub parameter_at : List Word → Answer Word Parameter
 parameter_at =
     made (λ p. record { element = p.0; name = p.1.1.0; value = p.1.1.1.1.0 })
     (pair parameter_type_at (pair (sign_at kinds.Colon) (pair name_at (pair (sign_at kinds.Equal) (pair expression_at (sign_at kinds.Semicolon))))))
 
+-- reads '=' expr
 unfoldable pub value_at : List Word → Answer Word Expression
 value_at = made (λ p. p.1) (pair (sign_at kinds.Equal) expression_at)
 
+-- reads ['=' expr]
 unfoldable pub maybe_value_at : List Word → Answer Word (Option Expression)
 maybe_value_at = maybe (is kinds.Equal) value_at
 
+-- reads vartype ':' Name anns ['=' expr] ';'
 unfoldable pub variable_at : List Word → Answer Word Variable
 variable_at =
     made (λ p. record { element = p.0; name = p.1.1.0; annotations = p.1.1.1.0; value = p.1.1.1.1.0 })
     (pair variable_type_at (pair (sign_at kinds.Colon) (pair name_at (pair annotations_at (pair maybe_value_at (sign_at kinds.Semicolon))))))
 
+-- reads 'array' '[' Int '..' Int ']' 'of'
 unfoldable pub index_at : List Word → Answer Word IndexRange
 index_at =
     made (λ p. record { first = p.1.1.0; last = p.1.1.1.1.0 })
     (pair (sign_at kinds.Array) (pair (sign_at kinds.LeftBracket) (pair int_at (pair (sign_at kinds.DotDot) (pair int_at (pair (sign_at kinds.RightBracket) (sign_at kinds.Of)))))))
 
+-- reads vartype ':' Name anns '=' expr ';'
 unfoldable pub variable_entries_at : List Word → Answer Word VariableEntries
 variable_entries_at =
     made (λ p. record { element = p.0; name = p.1.1.0; annotations = p.1.1.1.0; value = p.1.1.1.1.0 })
     (pair variable_type_at (pair (sign_at kinds.Colon) (pair name_at (pair annotations_at (pair value_at (sign_at kinds.Semicolon))))))
 
+-- reads what stands behind 'of' in the declaration of an array
 unfoldable pub entries_at : List Word → Answer Word Entries
 entries_at = either (is kinds.Var) (made (λ v. entries.Variables v) variable_entries_at) (made (λ p. entries.Parameters p) parameter_at)
 
@@ -71,17 +82,21 @@ abbrev pub array_of : IndexRange × Entries → Declaration
 array_of (r, entries.Parameters p) = declarations.ParameterArray (record { index = r; entries = p })
 array_of (r, entries.Variables v) = declarations.VariableArray (record { index = r; element = v.element; name = v.name; annotations = v.annotations; value = v.value })
 
+-- reads the declaration of an array
 unfoldable pub array_at : List Word → Answer Word Declaration
 array_at = made array_of (pair index_at entries_at)
 
+-- reads a declaration
 unfoldable pub declaration_at : List Word → Answer Word Declaration
 declaration_at =
     either (is kinds.Array) array_at
     (either (is kinds.Var) (made (λ v. declarations.Variable v) variable_at) (made (λ p. declarations.Parameter p) parameter_at))
 
+-- reads ',' expr
 abbrev pub more_expressions_at : List Word → Answer Word Expression
 more_expressions_at = behind (sign_at kinds.Comma) expression_at
 
+-- reads expr {',' expr}*
 unfoldable pub expressions_at : List Word → Answer Word (List Expression)
 expressions_at = listed (is kinds.Comma) (sign_at kinds.Comma) expression_at
 
@@ -89,22 +104,27 @@ expressions_at = listed (is kinds.Comma) (sign_at kinds.Comma) expression_at
 abbrev pub leads_expression : Word → Bool
 leads_expression w = is kinds.LeftBracket w || leads_basic w
 
+-- reads [expr {',' expr}*]
 unfoldable pub some_expressions_at : List Word → Answer Word (List Expression)
 some_expressions_at = either leads_expression expressions_at (made (λ _. []) nothing)
 
+-- reads 'constraint' Name '(' [expr {',' expr}*] ')' anns ';'
 unfoldable pub constraint_at : List Word → Answer Word Constraint
 constraint_at =
     made (λ p. record { name = p.1.0; arguments = p.1.1.1.0; annotations = p.1.1.1.1.1.0 })
     (pair (sign_at kinds.Constraint) (pair name_at (pair (sign_at kinds.LeftParen) (pair some_expressions_at (pair (sign_at kinds.RightParen) (pair annotations_at (sign_at kinds.Semicolon)))))))
 
+-- reads 'satisfy' | 'minimize' Name | 'maximize' Name
 unfoldable pub goal_at : List Word → Answer Word Goal
 goal_at =
     either (is kinds.Satisfy) (made (λ _. goals.Satisfy) (sign_at kinds.Satisfy))
     (either (is kinds.Minimize) (made (λ p. goals.Minimize p.1) (pair (sign_at kinds.Minimize) name_at)) (made (λ p. goals.Maximize p.1) (pair (sign_at kinds.Maximize) name_at)))
 
+-- reads the word `solve`
 unfoldable pub solve_word_at : List Word → Answer Word ℕ
 solve_word_at = one solve_worth
 
+-- reads 'solve' anns goal ';'
 unfoldable pub solve_at : List Word → Answer Word Solve
 solve_at =
     made (λ p. record { at = p.0; annotations = p.1.0; goal = p.1.1.0 }) (pair solve_word_at (pair annotations_at (pair goal_at (sign_at kinds.Semicolon))))
@@ -113,19 +133,24 @@ solve_at =
 abbrev pub leads_declaration : Word → Bool
 leads_declaration w = is kinds.Array w || (is kinds.Var w || (is kinds.Bool w || (is kinds.IntWord w || (is kinds.FloatWord w || is kinds.Set w))))
 
+-- reads {predicate}*
 abbrev pub predicates_at : List Word → Answer Word (List Predicate)
 predicates_at = many (is kinds.Predicate) predicate_at
 
+-- reads {decl}*
 abbrev pub declarations_at : List Word → Answer Word (List Declaration)
 declarations_at = many leads_declaration declaration_at
 
+-- reads {constraint}*
 abbrev pub constraints_at : List Word → Answer Word (List Constraint)
 constraints_at = many (is kinds.Constraint) constraint_at
 
+-- reads {predicate}* {decl}* {constraint}* solve
 unfoldable pub items_at : List Word → Answer Word Items
 items_at =
     made (λ p. record { predicates = p.0; declarations = p.1.0; constraints = p.1.1.0; solve = p.1.1.1 })
     (pair predicates_at (pair declarations_at (pair constraints_at solve_at)))
 
+-- reads items to the end of the words
 unfoldable pub text_at : List Word → Answer Word Items
 text_at = whole items_at

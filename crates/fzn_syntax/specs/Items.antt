@@ -60,6 +60,7 @@ abbrev pub IsVariableArray : VariableArray → List Word → Type 0
 IsVariableArray a =
     IsIndexRange a.index ⨾ IsVariableType a.element ⨾ Sign kinds.Colon ⨾ IsName a.name ⨾ AreAnnotations a.annotations ⨾ IsValue a.value ⨾ Sign kinds.Semicolon
 
+-- a parameter, a variable, an array of parameters or one of variables
 abbrev pub IsDeclaration : Declaration → List Word → Type 0
 IsDeclaration (declarations.Parameter p) = IsParameter p
 IsDeclaration (declarations.Variable v) = IsVariable v

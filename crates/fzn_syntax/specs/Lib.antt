@@ -10,3 +10,4 @@ pub mod Balance
 pub mod Items
 pub mod ItemReading
 pub mod Parsed
+pub mod Texts

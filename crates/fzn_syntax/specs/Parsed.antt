@@ -18,6 +18,7 @@ pub record StopsAt (len : ℕ) (ws : List Word) (at : ℕ) : Type 0 where
   pub fails : FailsAt AreItems ws left
   pub place : at ≡ place_of len fails.rest
 
+-- the words are these items; or they stop to begin any at this place of a text of this length
 abbrev pub IsParsed : ℕ → List Word → Result Items SyntaxError → Type 0
 IsParsed len ws (Ok items) = AreItems items ws
 IsParsed len ws (Err (Unexpected at)) = StopsAt len ws at

@@ -20,15 +20,19 @@ use Rattle.fzn_syntax.specs.declared.expression.Expression.TheVariants as expres
 use Rattle.fzn_syntax.specs.Words.{is}
 use Rattle.fzn_syntax.specs.Grammar.{sign_worth, name_worth, int_worth, number_worth}
 
+-- reads a word of the kind
 unfoldable pub sign_at : Kind → List Word → Answer Word (Unit {0})
 sign_at k = one (sign_worth k)
 
+-- reads a name
 unfoldable pub name_at : List Word → Answer Word Identifier
 name_at = one name_worth
 
+-- reads an integer
 unfoldable pub int_at : List Word → Answer Word ℤ
 int_at = one int_worth
 
+-- reads a number
 unfoldable pub number_at : List Word → Answer Word Number
 number_at = one number_worth
 
@@ -36,41 +40,51 @@ number_at = one number_worth
 abbrev pub is_number : Word → Bool
 is_number w = is kinds.Int w || is kinds.Float w
 
+-- reads number '..' number
 unfoldable pub bounds_at : List Word → Answer Word Bounds
 bounds_at = made (λ p. record { lower = p.0; upper = p.1.1 }) (pair number_at (pair (sign_at kinds.DotDot) number_at))
 
+-- reads ',' number
 abbrev pub more_numbers_at : List Word → Answer Word Number
 more_numbers_at = behind (sign_at kinds.Comma) number_at
 
+-- reads number {',' number}*
 unfoldable pub numbers_at : List Word → Answer Word (List Number)
 numbers_at = listed (is kinds.Comma) (sign_at kinds.Comma) number_at
 
+-- reads [number {',' number}*]
 unfoldable pub some_numbers_at : List Word → Answer Word (List Number)
 some_numbers_at = either is_number numbers_at (made (λ _. []) nothing)
 
+-- reads '{' [number {',' number}*] '}'
 unfoldable pub set_at : List Word → Answer Word (List Number)
 set_at = made (λ p. p.1.0) (pair (sign_at kinds.LeftBrace) (pair some_numbers_at (sign_at kinds.RightBrace)))
 
+-- reads 'int' | 'float' | number '..' number | '{' [number {',' number}*] '}'
 unfoldable pub element_at : List Word → Answer Word Element
 element_at =
     either (is kinds.IntWord) (made (λ _. elements.Int) (sign_at kinds.IntWord))
     (either (is kinds.FloatWord) (made (λ _. elements.Float) (sign_at kinds.FloatWord))
     (either (is kinds.LeftBrace) (made (λ ns. elements.Set ns) set_at) (made (λ b. elements.Range b) bounds_at)))
 
+-- reads 'set' 'of' elem
 unfoldable pub set_of_at : List Word → Answer Word Element
 set_of_at = made (λ p. p.1.1) (pair (sign_at kinds.Set) (pair (sign_at kinds.Of) element_at))
 
+-- reads 'bool' | 'int' | 'float' | 'set' 'of' elem
 unfoldable pub parameter_type_at : List Word → Answer Word ParameterType
 parameter_type_at =
     either (is kinds.Bool) (made (λ _. parameters.Bool) (sign_at kinds.Bool))
     (either (is kinds.IntWord) (made (λ _. parameters.Int) (sign_at kinds.IntWord))
     (either (is kinds.FloatWord) (made (λ _. parameters.Float) (sign_at kinds.FloatWord)) (made (λ e. parameters.SetOf e) set_of_at)))
 
+-- reads 'bool' | elem | 'set' 'of' elem
 unfoldable pub domain_at : List Word → Answer Word VariableType
 domain_at =
     either (is kinds.Bool) (made (λ _. variables.Bool) (sign_at kinds.Bool))
     (either (is kinds.Set) (made (λ e. variables.SetOf e) set_of_at) (made (λ e. variables.Plain e) element_at))
 
+-- reads 'var' ('bool' | elem | 'set' 'of' elem)
 unfoldable pub variable_type_at : List Word → Answer Word VariableType
 variable_type_at = made (λ p. p.1) (pair (sign_at kinds.Var) domain_at)
 
@@ -79,12 +93,15 @@ abbrev pub number_or_range : Number × Option Number → Basic
 number_or_range (n, None) = basics.Number n
 number_or_range (n, Some m) = basics.Range (record { lower = n; upper = m })
 
+-- reads ['..' number]
 unfoldable pub upper_at : List Word → Answer Word (Option Number)
 upper_at = maybe (is kinds.DotDot) (behind (sign_at kinds.DotDot) number_at)
 
+-- reads number ['..' number]
 unfoldable pub range_at : List Word → Answer Word Basic
 range_at = made number_or_range (pair number_at upper_at)
 
+-- reads an expression without a list
 unfoldable pub basic_at : List Word → Answer Word Basic
 basic_at =
     either (is kinds.True) (made (λ _. basics.True) (sign_at kinds.True))
@@ -92,9 +109,11 @@ basic_at =
     (either (is kinds.LeftBrace) (made (λ ns. basics.Set ns) set_at)
     (either is_number range_at (made (λ n. basics.Name n) name_at))))
 
+-- reads ',' basic
 abbrev pub more_basics_at : List Word → Answer Word Basic
 more_basics_at = behind (sign_at kinds.Comma) basic_at
 
+-- reads basic {',' basic}*
 unfoldable pub basics_at : List Word → Answer Word (List Basic)
 basics_at = listed (is kinds.Comma) (sign_at kinds.Comma) basic_at
 
@@ -102,11 +121,14 @@ basics_at = listed (is kinds.Comma) (sign_at kinds.Comma) basic_at
 abbrev pub leads_basic : Word → Bool
 leads_basic w = is kinds.True w || (is kinds.False w || (is kinds.LeftBrace w || (is_number w || is kinds.Name w)))
 
+-- reads [basic {',' basic}*]
 unfoldable pub some_basics_at : List Word → Answer Word (List Basic)
 some_basics_at = either leads_basic basics_at (made (λ _. []) nothing)
 
+-- reads '[' [basic {',' basic}*] ']'
 unfoldable pub list_at : List Word → Answer Word (List Basic)
 list_at = made (λ p. p.1.0) (pair (sign_at kinds.LeftBracket) (pair some_basics_at (sign_at kinds.RightBracket)))
 
+-- reads an expression
 unfoldable pub expression_at : List Word → Answer Word Expression
 expression_at = either (is kinds.LeftBracket) (made (λ bs. expressions.List bs) list_at) (made (λ b. expressions.Basic b) basic_at)

@@ -60,6 +60,7 @@ moved turns.Pop paren below = Some (popped below)
 moved (turns.Stay place) paren below = Some (Some (record { place = place; paren = paren; below = below }))
 moved (turns.Push inner) paren below = Some (Some (record { place = places.First; paren = inner; below = paren ∷ below }))
 
+-- what a word makes of a position
 abbrev pub step : Position → Word → Option (Option Position)
 step p w = moved (turn p.place p.paren (code (kind w))) p.paren p.below
 
@@ -71,11 +72,14 @@ opened = record { place = places.First; paren = true; below = [] }
 abbrev pub itself : Word → Option Word
 itself w = if is kinds.LeftParen w then Some w else None
 
+-- reads [arg {',' arg}*] ')'
 abbrev pub inside_at : List Word → Answer Word (List Word)
 inside_at = run step opened
 
+-- reads an opening parenthesis, and keeps the word
 unfoldable pub paren_at : List Word → Answer Word Word
 paren_at = one itself
 
+-- reads '(' [arg {',' arg}*] ')', and keeps the words
 unfoldable pub arguments_at : List Word → Answer Word (List Word)
 arguments_at = made (λ p. p.0 ∷ p.1) (pair paren_at inside_at)

@@ -92,6 +92,7 @@ kind_by what.DoubleColon text = kinds.DoubleColon
 kind_by what.Equal text = kinds.Equal
 kind_by what.DotDot text = kinds.DotDot
 
+-- the kind of a word
 abbrev pub kind : Word → Kind
 kind w = kind_by w.what w.text
 
@@ -106,9 +107,11 @@ kept_text what.Float text = text
 kept_text what.Text text = text
 kept_text _ text = []
 
+-- a token as a word: with its kept bytes and its place
 abbrev pub word_of : List ℕ → Token → Word
 word_of bytes t = record { what = t.what; text = kept_text t.what (bytes_between bytes t.start t.end); at = t.start }
 
+-- the words of a text with these tokens
 abbrev pub words : List ℕ → List Token → List Word
 words bytes tokens = map (word_of bytes) tokens
 

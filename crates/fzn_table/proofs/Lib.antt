@@ -1,2 +1,3 @@
 mod Found
 mod Rising
+pub mod Few

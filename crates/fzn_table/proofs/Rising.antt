@@ -19,7 +19,7 @@ never_back Less p e f = rw f refl
 never_back Equal p e f = absurd cc
 never_back Greater p e f = absurd cc
 
-both : (a b : Bool) → (a && b) ≡ true → (a ≡ true) × (b ≡ true)
+pub both : (a b : Bool) → (a && b) ≡ true → (a ≡ true) × (b ≡ true)
 both true b e = (refl, e)
 both false b e = absurd cc
 

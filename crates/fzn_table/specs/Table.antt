@@ -3,7 +3,7 @@ use Rattle.std.specs.Prelude.{◌≡◌, ℕ, List, [], ◌∷◌, Some, slice_g
 use Rattle.fzn_table.specs.declared.argument_type.ArgumentType.{ArgumentType}
 use Rattle.fzn_table.specs.declared.argument_type.ArgumentType.TheVariants.{ConstantInteger, Set, ConstantIntegerArray, ConstantBooleanArray, Integer, Boolean, IntegerArray, BooleanArray}
 use Rattle.fzn_table.specs.declared.shape.Comparison.TheVariants as comparison
-use Rattle.fzn_table.specs.declared.shape.Relation.TheVariants as relation
+use Rattle.dom_core.specs.declared.relation.Relation.TheVariants as relation
 use Rattle.fzn_table.specs.declared.shape.Shape.{Shape}
 use Rattle.fzn_table.specs.declared.shape.Shape.TheVariants.{Linear, LinearReified, Compared, ComparedReified, Negation, Conversion, Sum, Clause, ClauseReified, Conjunction, Disjunction, And, Or, Xor, Product, Maximum, Minimum, AbsoluteValue, Element, Membership, MembershipReified, AllDifferent, Count, Among, AtMost, AtLeast, Cardinality}
 
@@ -13,6 +13,7 @@ pub record Entry : Type 0 where
   pub arguments : List ArgumentType
   pub shape : Shape
 
+-- an entry by its parts
 abbrev pub entry : List ℕ → List ArgumentType → Shape → Entry
 entry name arguments shape = record { name = name; arguments = arguments; shape = shape }
 

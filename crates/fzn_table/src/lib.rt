@@ -7,7 +7,7 @@ mod shape;
 
 pub use argument_type::ArgumentType;
 pub use row::{Row, one_row, row_of};
-pub use shape::{Comparison, Relation, Shape};
+pub use shape::{Comparison, Shape};
 
 #[cfg(test)]
 mod tests;

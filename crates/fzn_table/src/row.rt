@@ -4,7 +4,8 @@ ghost use Rattle.fzn_table.specs.Rows.{entry_of};
 ghost use Rattle.fzn_table.specs.Table.{table, Entry, IsEntryOf, IsUnlisted};
 
 use crate::argument_type::ArgumentType;
-use crate::shape::{Comparison, Relation, Shape};
+use crate::shape::{Comparison, Shape};
+use dom_core::Relation;
 
 /// A constraint's name, the types of its arguments in order and what it says of them.
 pub struct Row {

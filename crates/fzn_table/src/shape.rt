@@ -1,12 +1,6 @@
 //! What a constraint says of its arguments.
 
-/// How a sum stands to a number.
-#[derive(Clone, Copy, Debug, PartialEq, Eq, Drop)]
-pub enum Relation {
-    AtMost,
-    Equal,
-    Differ,
-}
+use dom_core::Relation;
 
 /// How a value stands to another.
 #[derive(Clone, Copy, Debug, PartialEq, Eq, Drop)]

@@ -1,5 +1,6 @@
 //! The table, tried on names.
-use crate::{ArgumentType, Comparison, Relation, Row, Shape, row_of};
+use crate::{ArgumentType, Comparison, Row, Shape, row_of};
+use dom_core::Relation;
 
 fn shared<T: Send + Sync>(_: &T) {}
 

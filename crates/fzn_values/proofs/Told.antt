@@ -1,7 +1,7 @@
 -- What calls tell of literals, of integers and of lists.
 use Rattle.std.proofs.Common.{◌≡◌, ℕ, zero, suc, ◌+◌, ℤ, true, false, List, [], ◌∷◌, ◌++◌, take, length, get_or, slice_get, ◌<◌, Option, None, Some, Result, Ok, Err, IfOk, IfSome, MatchOption, Bor, refl, sym, ◌∙◌, ap, subst, arith}
 use Rattle.std.specs.Option.{option_copied}
-use Rattle.std.proofs.lemmas.Option.{slice_get_read}
+use Rattle.std.proofs.lemmas.Option.{slice_get_read, same_Some}
 use Rattle.chains.specs.declared.link.Link.TheVariants as places
 use Rattle.fzn_syntax.specs.declared.declaration.Declaration.{Declaration}
 use Rattle.fzn_syntax.specs.declared.expression.Basic.{Basic}
@@ -10,38 +10,37 @@ use Rattle.fzn_syntax.specs.declared.expression.Expression.TheVariants as expres
 use Rattle.fzn_scope.specs.Names.{names_of, AreDifferent, IsNamed, IsPlaced, IsUndeclared}
 use Rattle.fzn_values.specs.declared.entry.Entry.{Entry}
 use Rattle.fzn_values.specs.declared.entry.Entry.TheVariants.{Constant, Variable}
-use Rattle.fzn_values.specs.declared.literal.Literal.{Literal}
-use Rattle.fzn_values.specs.declared.literal.Literal.TheVariants as literals
+use Rattle.fzn_values.specs.declared.literal.LiteralKind.{LiteralKind}
+use Rattle.fzn_values.specs.declared.literal.LiteralKind.TheVariants as literals
 use Rattle.fzn_values.specs.Literals.{is_number, is_literal, name_in, named_by, value_for, StandsFor, itself}
 use Rattle.fzn_values.specs.Links.{IsValueLink, IsLiteralOf, NameStandsFor, NamesListAt}
 use Rattle.fzn_values.specs.Worth.{number, IsIntOf, IsListOf, IsListAt, AreInts, AreIntsOf, IsIntegerVariable, NamesVariableAt, IsVariableOf, IsEntryOf}
-use Rattle.fzn_values.proofs.Named.{some_same, one_place, stands_literal, written, by_name, of_name, one_literal}
+use Rattle.fzn_values.proofs.Named.{one_place, end_stands, stands_literal, written, by_name, of_name, one_literal}
 
 pub copied_some : {X : Type 0} (r : Option (Bor X)) (N : Type 0) (P : X → Type 0) (x : X) → option_copied r ≡ Some x → P x → MatchOption r N (λ y. P y.now)
 copied_some None N P x e p = absurd cc
-copied_some (Some y) N P x e p = subst P (sym (some_same y.now x e)) p
+copied_some (Some y) N P x e p = subst P (sym (same_Some y.now x e)) p
 
-module _ (ds : List Declaration) (literal : Literal) (n : List ℕ) (place : ℕ) (d : Declaration) (at : slice_get ds place ≡ Some d) (named : IsNamed ds n d) where
+module _ (ds : List Declaration) (literal : LiteralKind) (n : List ℕ) (place : ℕ) (d : Declaration) (at : slice_get ds place ≡ Some d) (named : IsNamed ds n d) where
   pub name_has_none : AreDifferent (names_of ds) → IsLiteralOf ds literal d None → (l : Expression) → NameStandsFor ds literal n l → ⊥
   name_has_none different none l h =
       let same : h.2.0 ≡ named.0 = one_place ds n h.2.0 named.0 h.0 d different h.2.1 h.2.2 named.1 named.2 in
       let there : slice_get ds named.0 ≡ Some h.0 = subst (λ k. slice_get ds k ≡ Some h.0) same h.2.1 in
-      let one : h.0 ≡ d = some_same h.0 d (sym there ∙ named.1) in
+      let one : h.0 ≡ d = same_Some h.0 d (sym there ∙ named.1) in
       none h.1 l (ap (value_for literal) (sym one) ∙ h.3) h.4
 
   pub name_has_some : (e : ℕ) (f : Declaration) (r : Option (Bor Expression)) (N : Type 0) → IsLiteralOf ds literal d (Some e) → slice_get ds e ≡ Some f → option_copied r ≡ value_for literal f
       → MatchOption r N (λ l. NameStandsFor ds literal n l.now)
-  name_has_some e f r N h there told =
-      let same : h.2 ≡ f = some_same h.2 f (sym h.5 ∙ there) in
+  name_has_some e f r N ends there told =
+      let h = end_stands ds literal d e ends in
+      let same : h.2 ≡ f = same_Some h.2 f (sym h.5 ∙ there) in
       copied_some r N (NameStandsFor ds literal n) h.1 (told ∙ ap (value_for literal) (sym same) ∙ h.6) (d, h.0, named, h.3, h.4)
 
 -- a name's end is the place of the list that the name stands for
 pub list_place : (ds : List Declaration) (n : List ℕ) (place : ℕ) → AreDifferent (names_of ds) → IsPlaced ds n place → (r : Option ℕ)
     → ((d : Declaration) → slice_get ds place ≡ Some d → IsLiteralOf ds literals.List d r) → MatchOption r ((l : Expression) → NameStandsFor ds literals.List n l → ⊥) (NamesListAt ds n)
 list_place ds n place different p None h = name_has_none ds literals.List n place p.0 p.1 (place, p.1, p.2) different (h p.0 p.1)
-list_place ds n place different p (Some e) h =
-    let g = h p.0 p.1 in
-    (g.2, g.1, g.5, g.6, (p.0, g.0, (place, p.1, p.2), g.3, g.4))
+list_place ds n place different p (Some e) h = (p.0, (place, p.1, p.2), h p.0 p.1)
 
 module _ (ds : List Declaration) (b : Basic) (r : Option ℤ) where
   pub int_written : name_in b ≡ None → MatchOption r (is_number b ≡ false) (λ z. b ≡ number z) → MatchOption r ((z : ℤ) → IsIntOf ds b z → ⊥) (IsIntOf ds b)
@@ -82,20 +81,19 @@ pub one_list : (ds : List Declaration) (e : Expression) (bs cs : List Basic) →
 one_list ds e bs cs different h g =
     let l : expressions.List bs ≡ expressions.List cs = one_literal ds literals.List different e (expressions.List bs) (expressions.List cs) h g in cc
 
-literal_list : (l : Expression) → is_literal literals.List l ≡ true → (bs : List Basic) × (l ≡ expressions.List bs)
-literal_list (expressions.Basic b) is = absurd cc
-literal_list (expressions.List bs) is = (bs, refl)
-
 pub no_list_at : (ds : List Declaration) (e : Expression) → named_by e ≡ None → (k : ℕ) → IsListAt ds e k → ⊥
-no_list_at ds e none k h = let named = h.3 in absurd cc
+no_list_at ds e none k h = let named = h.1 in absurd cc
+
+-- what a name stands for whose chain ends at a list
+name_stands : (ds : List Declaration) (n : List ℕ) (k : ℕ) → NamesListAt ds n k → (l : Expression) × NameStandsFor ds literals.List n l
+name_stands ds n k h = let r = end_stands ds literals.List h.0 k h.2 in (r.1, (h.0, r.0, h.1, r.3, r.4))
 
 pub list_at : (ds : List Declaration) (e : Expression) (n : List ℕ) → named_by e ≡ Some n → (r : Option ℕ) → MatchOption r ((l : Expression) → NameStandsFor ds literals.List n l → ⊥) (NamesListAt ds n)
     → MatchOption r ((k : ℕ) → IsListAt ds e k → ⊥) (IsListAt ds e)
-list_at ds e n is None none = λ k h. none (expressions.List h.2) (by_name ds literals.List e (expressions.List h.2) n is h.6)
-list_at ds e n is (Some k) h =
-    let s : StandsFor ds literals.List e h.1 = of_name ds literals.List e h.1 n is h.4 in
-    let l = literal_list h.1 (stands_literal ds literals.List e h.1 s) in
-    (n, h.0, l.0, is, h.2, h.3 ∙ ap Some l.1, subst (λ x. StandsFor ds literals.List e x) l.1 s)
+list_at ds e n is None none = λ k h.
+    let s = name_stands ds h.0 k h.2 in
+    none s.0 (subst (λ m. NameStandsFor ds literals.List m s.0) (same_Some h.0 n (sym h.1 ∙ is)) s.1)
+list_at ds e n is (Some k) h = (n, is, h)
 
 pub one_list_at : (ds : List Declaration) (e : Expression) → AreDifferent (names_of ds) → (r : Option ℕ) → IfSome r (λ k. (bs cs : List Basic) → IsListOf ds e bs → IsListOf ds e cs → cs ≡ bs)
 one_list_at ds e different None = tt
@@ -108,10 +106,10 @@ pub one_integer : (ds : List Declaration) (b : Basic) (y z : ℤ) → AreDiffere
 one_integer ds b y z different h g =
     let l : expressions.Basic (number y) ≡ expressions.Basic (number z) = one_literal ds literals.Integer different (expressions.Basic b) (expressions.Basic (number y)) (expressions.Basic (number z)) h g in cc
 
-pub leads_nowhere : (ds : List Declaration) (literal : Literal) (v : Expression) (m : List ℕ) → is_literal literal v ≡ false → Some m ≡ named_by v → IsUndeclared ds m → IsValueLink ds literal v places.Nothing
-leads_nowhere ds literal v m is named none = (is, λ n e. subst (λ x. IsUndeclared ds x) (some_same m n (named ∙ e)) none)
+pub leads_nowhere : (ds : List Declaration) (literal : LiteralKind) (v : Expression) (m : List ℕ) → is_literal literal v ≡ false → Some m ≡ named_by v → IsUndeclared ds m → IsValueLink ds literal v places.Nothing
+leads_nowhere ds literal v m is named none = (is, λ n e. subst (λ x. IsUndeclared ds x) (same_Some m n (named ∙ e)) none)
 
-pub no_name : (ds : List Declaration) (literal : Literal) (n : List ℕ) → IsUndeclared ds n → (l : Expression) → NameStandsFor ds literal n l → ⊥
+pub no_name : (ds : List Declaration) (literal : LiteralKind) (n : List ℕ) → IsUndeclared ds n → (l : Expression) → NameStandsFor ds literal n l → ⊥
 no_name ds literal n none l h = none h.0 h.2
 
 -- ---- integer variables
@@ -127,7 +125,7 @@ other_variable ds n place different placed not k h =
 -- an expression that is a name is told by the name
 pub variable_by_name : (ds : List Declaration) (b : Basic) (n : List ℕ) (r : Option ℕ) → Some n ≡ name_in b → MatchOption r ((k : ℕ) → NamesVariableAt ds n k → ⊥) (NamesVariableAt ds n)
     → MatchOption r ((k : ℕ) → IsVariableOf ds b k → ⊥) (IsVariableOf ds b)
-variable_by_name ds b n None is none = λ k h. none k (subst (λ m. NamesVariableAt ds m k) (sym (some_same n h.0 (is ∙ h.1))) h.2)
+variable_by_name ds b n None is none = λ k h. none k (subst (λ m. NamesVariableAt ds m k) (sym (same_Some n h.0 (is ∙ h.1))) h.2)
 variable_by_name ds b n (Some k) is h = (n, sym is, h)
 
 -- ---- integers one by one
@@ -135,7 +133,7 @@ variable_by_name ds b n (Some k) is h = (n, sym is, h)
 pub no_ints : (ds : List Declaration) (bs : List Basic) (i : ℕ) (b : Basic) → slice_get bs i ≡ Some b → ((z : ℤ) → IsIntOf ds b z → ⊥) → (zs : List ℤ) → AreInts ds bs zs → ⊥
 no_ints ds [] i b at none zs h = absurd cc
 no_ints ds (c ∷ bs) zero b at none [] h = absurd h
-no_ints ds (c ∷ bs) zero b at none (z ∷ zs) h = none z (subst (λ x. IsIntOf ds x z) (some_same c b at) h.0)
+no_ints ds (c ∷ bs) zero b at none (z ∷ zs) h = none z (subst (λ x. IsIntOf ds x z) (same_Some c b at) h.0)
 no_ints ds (c ∷ bs) (suc i) b at none [] h = absurd h
 no_ints ds (c ∷ bs) (suc i) b at none (z ∷ zs) h = no_ints ds bs i b at none zs h.1
 
@@ -144,7 +142,7 @@ ints_more ds bs zs i b z at h is = let e : i + 1 ≡ suc i = omega arith in rw e
   where
     go : (cs : List Basic) (ys : List ℤ) (k : ℕ) → slice_get cs k ≡ Some b → AreInts ds (take k cs) ys → AreInts ds (take (suc k) cs) (ys ++ z ∷ [])
     go [] ys k there g = absurd cc
-    go (c ∷ cs) [] zero there g = (subst (λ x. IsIntOf ds x z) (sym (some_same c b there)) is, tt)
+    go (c ∷ cs) [] zero there g = (subst (λ x. IsIntOf ds x z) (sym (same_Some c b there)) is, tt)
     go (c ∷ cs) (y ∷ ys) zero there g = absurd g
     go (c ∷ cs) [] (suc k) there g = absurd g
     go (c ∷ cs) (y ∷ ys) (suc k) there g = (g.0, go cs ys k there g.1)

@@ -10,8 +10,8 @@ use Rattle.fzn_syntax.specs.declared.expression.Expression.{Expression}
 use Rattle.fzn_syntax.specs.declared.expression.Expression.TheVariants as expressions
 use Rattle.fzn_scope.specs.Bases.{is_integer}
 use Rattle.fzn_scope.specs.Names.{IsNamed}
-use Rattle.fzn_values.specs.declared.literal.Literal.{Literal}
-use Rattle.fzn_values.specs.declared.literal.Literal.TheVariants as literals
+use Rattle.fzn_values.specs.declared.literal.LiteralKind.{LiteralKind}
+use Rattle.fzn_values.specs.declared.literal.LiteralKind.TheVariants as literals
 
 -- an integer as it is written
 abbrev pub is_number : Basic → Bool
@@ -23,7 +23,7 @@ is_number (basics.Range b) = false
 is_number (basics.Set zs) = false
 
 -- the expression is such a literal
-abbrev pub is_literal : Literal → Expression → Bool
+abbrev pub is_literal : LiteralKind → Expression → Bool
 is_literal literals.Integer (expressions.Basic b) = is_number b
 is_literal literals.Integer (expressions.List bs) = false
 is_literal literals.List (expressions.Basic b) = false
@@ -38,10 +38,12 @@ name_in (basics.Number z) = None
 name_in (basics.Range b) = None
 name_in (basics.Set zs) = None
 
+-- the name that is the whole expression
 abbrev pub named_by : Expression → Option (List ℕ)
 named_by (expressions.Basic b) = name_in b
 named_by (expressions.List bs) = None
 
+-- the value of a parameter where it is an integer
 abbrev pub integer_value : ParameterType → Expression → Option Expression
 integer_value types.Bool v = None
 integer_value types.Int v = Some v
@@ -49,7 +51,7 @@ integer_value types.Float v = None
 integer_value (types.SetOf e) v = None
 
 -- the value of a declaration whose name may stand for such a literal: of an integer parameter, or of an array
-abbrev pub value_for : Literal → Declaration → Option Expression
+abbrev pub value_for : LiteralKind → Declaration → Option Expression
 value_for literals.Integer (Parameter p) = integer_value p.element p.value
 value_for literals.Integer (Variable v) = None
 value_for literals.Integer (ParameterArray a) = None
@@ -60,6 +62,6 @@ value_for literals.List (ParameterArray a) = Some a.entries.value
 value_for literals.List (VariableArray a) = Some a.value
 
 -- the first is this literal, or names a declaration whose value stands for it
-pub data StandsFor (ds : List Declaration) (literal : Literal) : Expression → Expression → Type 0 where
+pub data StandsFor (ds : List Declaration) (literal : LiteralKind) : Expression → Expression → Type 0 where
   itself : {e l : Expression} → is_literal literal e ≡ true → l ≡ e → StandsFor ds literal e l
   through : {e l : Expression} (n : List ℕ) (d : Declaration) (v : Expression) → named_by e ≡ Some n → IsNamed ds n d → value_for literal d ≡ Some v → StandsFor ds literal v l → StandsFor ds literal e l

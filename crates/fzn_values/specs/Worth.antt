@@ -11,9 +11,11 @@ use Rattle.fzn_scope.specs.Names.{names_of, AreDifferent, IsPlaced}
 use Rattle.fzn_scope.specs.Sorts.{sort, sort_of}
 use Rattle.fzn_values.specs.declared.entry.Entry.{Entry}
 use Rattle.fzn_values.specs.declared.entry.Entry.TheVariants.{Constant, Variable}
-use Rattle.fzn_values.specs.declared.literal.Literal.TheVariants as literals
-use Rattle.fzn_values.specs.Literals.{name_in, named_by, value_for, StandsFor}
+use Rattle.fzn_values.specs.declared.literal.LiteralKind.TheVariants as literals
+use Rattle.fzn_values.specs.Links.{NamesListAt}
+use Rattle.fzn_values.specs.Literals.{name_in, named_by, StandsFor}
 
+-- an integer as it is written
 abbrev pub number : ℤ → Basic
 number z = basics.Number (numbers.Int z)
 
@@ -25,10 +27,9 @@ IsIntOf ds b z = StandsFor ds literals.Integer (expressions.Basic b) (expression
 abbrev pub IsListOf : List Declaration → Expression → List Basic → Type 0
 IsListOf ds e bs = StandsFor ds literals.List e (expressions.List bs)
 
--- the expression is a name that stands for the list which is the value of the declaration at this place
+-- the expression is a name, and the chain of names from it ends at the list that is declared at this place
 abbrev pub IsListAt : List Declaration → Expression → ℕ → Type 0
-IsListAt ds e k =
-    (n : List ℕ) × (d : Declaration) × (bs : List Basic) × (named_by e ≡ Some n) × (slice_get ds k ≡ Some d) × (value_for literals.List d ≡ Some (expressions.List bs)) × IsListOf ds e bs
+IsListAt ds e k = (n : List ℕ) × (named_by e ≡ Some n) × NamesListAt ds n k
 
 -- one by one they are worth these integers
 abbrev pub AreInts : List Declaration → List Basic → List ℤ → Type 0

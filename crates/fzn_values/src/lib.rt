@@ -1,14 +1,14 @@
 //! What constants are worth, and which lists arrays stand for.
 #![tactic(auto)]
 
+mod constants;
 mod entry;
 mod link;
 mod literal;
-mod values;
 
+pub use constants::{Constants, one_integer, one_list};
 pub use entry::Entry;
-pub use literal::{Literal, is_literal, value_for};
-pub use values::{Values, one_integer, one_list};
+pub use literal::{LiteralKind, is_literal, value_for};
 
 #[cfg(test)]
 mod tests;

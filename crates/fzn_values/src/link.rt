@@ -3,13 +3,13 @@ ghost use Rattle.std.specs.Prelude.{◌≡◌, IfOk};
 ghost use Rattle.fzn_scope.specs.Names.{names_of, AreDifferent};
 ghost use Rattle.fzn_values.specs.Links.{IsValueLink, IsLinkOf, AreLinks};
 
-use crate::literal::{Literal, is_literal, named_by, value_for};
+use crate::literal::{LiteralKind, is_literal, named_by, value_for};
 use chains::Link;
 use fzn_scope::Scope;
 use fzn_syntax::{Declaration, Expression};
 use std::alloc::{AllocError, Global};
 
-fn link_of_value(scope: &Scope<'_>, literal: Literal, value: &Expression) -> Link
+fn link_of_value(scope: &Scope<'_>, literal: LiteralKind, value: &Expression) -> Link
     ensures { IsValueLink scope.now literal value.now result }
 {
     if is_literal(literal, value) {
@@ -24,7 +24,7 @@ fn link_of_value(scope: &Scope<'_>, literal: Literal, value: &Expression) -> Lin
     }
 }
 
-fn link_of(scope: &Scope<'_>, literal: Literal, declaration: &Declaration) -> Link
+fn link_of(scope: &Scope<'_>, literal: LiteralKind, declaration: &Declaration) -> Link
     ensures { IsLinkOf scope.now literal declaration.now result }
 {
     match value_for(literal, declaration) {
@@ -37,7 +37,7 @@ fn link_of(scope: &Scope<'_>, literal: Literal, declaration: &Declaration) -> Li
 pub(crate) fn links_of(
     alloc: Global,
     scope: &Scope<'_>,
-    literal: Literal,
+    literal: LiteralKind,
 ) -> Result<Vec<Link>, AllocError>
     ensures are { IfOk result (λ links. AreLinks scope.now literal links.items) }
     ensures different { IfOk result (λ _. AreDifferent (names_of scope.now)) }

@@ -2,14 +2,14 @@
 ghost use Rattle.std.specs.Prelude.{◌≡◌, MatchOption, option_copied, true, false};
 ghost use Rattle.fzn_syntax.specs.declared.expression.Expression.TheVariants as expressions;
 ghost use Rattle.fzn_values.specs.Literals.{is_number, is_literal, name_in, named_by, integer_value, value_for};
-ghost use Rattle.fzn_values.specs.declared.literal.Literal.TheVariants as literals;
+ghost use Rattle.fzn_values.specs.declared.literal.LiteralKind.TheVariants as literals;
 ghost use Rattle.fzn_values.specs.Worth.{number};
 
 use fzn_syntax::{Basic, Declaration, Expression, Number, ParameterType};
 
 /// What a name may stand for: an integer, or the list of an array.
 #[derive(Clone, Copy, Debug, PartialEq, Eq, Drop)]
-pub enum Literal {
+pub enum LiteralKind {
     Integer,
     List,
 }
@@ -29,12 +29,12 @@ fn is_number(basic: &Basic) -> bool
 }
 
 /// Whether the expression is such a literal itself.
-pub fn is_literal(literal: Literal, expression: &Expression) -> bool
+pub fn is_literal(literal: LiteralKind, expression: &Expression) -> bool
     ensures { result ≡ is_literal literal expression.now }
 {
     match expression {
-        Expression::Basic(basic) => literal == Literal::Integer && is_number(basic),
-        Expression::List(_) => literal == Literal::List,
+        Expression::Basic(basic) => literal == LiteralKind::Integer && is_number(basic),
+        Expression::List(_) => literal == LiteralKind::List,
     }
 }
 
@@ -95,12 +95,12 @@ fn list_value_of(declaration: &Declaration) -> Option<&Expression>
 }
 
 /// The value of a declaration whose name may stand for such a literal.
-pub fn value_for(literal: Literal, declaration: &Declaration) -> Option<&Expression>
+pub fn value_for(literal: LiteralKind, declaration: &Declaration) -> Option<&Expression>
     ensures { option_copied result ≡ value_for literal declaration.now }
 {
     match literal {
-        Literal::Integer => integer_value_of(declaration),
-        Literal::List => list_value_of(declaration),
+        LiteralKind::Integer => integer_value_of(declaration),
+        LiteralKind::List => list_value_of(declaration),
     }
 }
 

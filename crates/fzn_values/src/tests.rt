@@ -1,5 +1,5 @@
 //! Names of short texts.
-use crate::{Entry, Literal, Values, is_literal, one_integer, one_list, value_for};
+use crate::{Constants, Entry, LiteralKind, is_literal, one_integer, one_list, value_for};
 use fzn_lex::lex;
 use fzn_occurrences::scope_of;
 use fzn_scope::Scope;
@@ -52,7 +52,7 @@ fn tells_worth<R: Abort>(
     scope: &Scope<'_>,
     basics: &[Basic],
 ) -> Result<(), Fail> {
-    let values = Values::new(alloc, scope)?;
+    let values = Constants::new(alloc, scope)?;
     shared(&values);
     assert_eq!(rt; values.scope().declarations().len(), 12);
     assert_eq!(rt; basics.len(), 12);
@@ -84,7 +84,7 @@ fn tells_lists<R: Abort>(
     scope: &Scope<'_>,
     arguments: &[Expression],
 ) -> Result<(), Fail> {
-    let values = Values::new(alloc, scope)?;
+    let values = Constants::new(alloc, scope)?;
     for (argument, list) in arguments.iter().skip(1).zip(LISTS) {
         assert!(rt;
             values.list_of(argument).is_some() == list.is_some(),
@@ -120,14 +120,15 @@ fn tells_places<R: Abort>(
     scope: &Scope<'_>,
     arguments: &[Expression],
 ) -> Result<(), Fail> {
-    let values = Values::new(alloc, scope)?;
+    let values = Constants::new(alloc, scope)?;
     assert_eq!(rt; arguments.len(), 5);
     for (argument, place) in arguments.iter().zip(PLACES) {
         assert!(rt; values.place_of_list(argument) == place, "its place");
         if let Some(declaration) = scope.declarations().get(place.unwrap_or(0)) {
-            let written = value_for(Literal::List, declaration);
+            let written = value_for(LiteralKind::List, declaration);
             assert!(rt;
-                written.is_some_and(|value| is_literal(Literal::List, value)) == place.is_some(),
+                written.is_some_and(|value| is_literal(LiteralKind::List, value))
+                    == place.is_some(),
                 "its own list"
             );
         }

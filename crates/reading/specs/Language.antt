@@ -1,8 +1,8 @@
 -- Languages: which lists of symbols spell a thing.
 use Rattle.std.specs.Prelude.{◌≡◌, List, [], ◌∷◌, ◌++◌, Option, Some, None}
 
--- the first part, and behind it the second
 infixr 20 ◌⨾◌
+-- the first part, and behind it the second
 abbrev pub ◌⨾◌ : {S : Type 0} → (List S → Type 0) → (List S → Type 0) → List S → Type 0
 ◌⨾◌ {S} A B symbols = (a : List S) × (b : List S) × (symbols ≡ a ++ b) × A a × B b
 

@@ -6,6 +6,7 @@ abbrev pub Answer : Type 0 → Type 0 → Type 0
 Answer S X = Result (X × List S) ℕ
 
 infixl 10 ◌>>=◌
+-- what follows an answer that is one
 abbrev pub ◌>>=◌ : {A B : Type 0} → Result A ℕ → (A → Result B ℕ) → Result B ℕ
 ◌>>=◌ (Ok x) f = f x
 ◌>>=◌ (Err n) f = Err n

@@ -1,5 +1,6 @@
 use Rattle.std.proofs.Common.{◌≤◌, length, ap, arith, below_more}
-use Rattle.fzn_declared.proofs.FaultLaws.{item_at, fault_is_first, place_is_fine, all_are_fine}
+use Rattle.fzn_scope.proofs.Places.{item_at}
+use Rattle.fzn_declared.proofs.FaultLaws.{fault_is_first, place_is_fine, all_are_fine}
 use Rattle.fzn_declared.proofs.fault.first_fault.Goals as goal
 
 pub returns-in-Some : goal.returns-in-Some

@@ -1,7 +1,0 @@
--- The expressions so far are worth these integers.
-use Rattle.std.proofs.Common.{take}
-use Rattle.fzn_values.specs.Worth.{AreInts}
-use Rattle.fzn_values.proofs.values.Values.ints_in.Given as goal
-
-abbrev pub invariant-loop-basic : goal.invariant-loop-basic
-invariant-loop-basic l = AreInts l.self (take l.basic-index l.basics) l.ints.items

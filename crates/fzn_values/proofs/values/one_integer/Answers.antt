@@ -1,5 +1,0 @@
-use Rattle.fzn_values.proofs.Told.{one_integer}
-use Rattle.fzn_values.proofs.values.one_integer.Goals as goal
-
-pub returns : goal.returns
-returns c = one_integer

@@ -1,5 +1,0 @@
-use Rattle.fzn_values.proofs.Told.{one_list}
-use Rattle.fzn_values.proofs.values.one_list.Goals as goal
-
-pub returns : goal.returns
-returns c = one_list
