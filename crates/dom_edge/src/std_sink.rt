@@ -29,7 +29,9 @@ impl<W: Write> StdSink<W> {
 }
 
 impl<W: Write> Sink for StdSink<W> {
-    ghost use Rattle.std.specs.Prelude.{None};
+    ghost use Rattle.std.specs.Prelude.{◌≡◌, ◌+◌, ◌<◌, ◌≤◌, length, None, IfOk, OnErr};
+    ghost use Rattle.std.specs.Io.KnownBytes.{WriteAppends};
+    ghost use Rattle.dom_edge.specs.Causes.{HasCause};
 
     ghost bytes = { λ _. None };
 
@@ -42,7 +44,17 @@ impl<W: Write> Sink for StdSink<W> {
         Ok(())
     }
 
-    fn write(&mut self, piece: &[u8]) -> Result<usize, Failed> {
+    fn write(&mut self, piece: &[u8]) -> Result<usize, Failed>
+        requires some { 0 < length piece.now }
+        requires room { length piece.now ≤ self.old.spare }
+        ensures some { IfOk result (λ n. 0 < n) }
+        ensures within { IfOk result (λ n. n ≤ length piece.now) }
+        ensures stream { WriteAppends (W.contents self.old.stream) (W.contents self.new.stream)
+            result piece.now }
+        ensures room { IfOk result (λ n. self.new.spare + n ≡ self.old.spare) }
+        ensures left { OnErr result (self.new.spare ≡ self.old.spare) }
+        ensures cause { HasCause self.old.faults self.new.faults result }
+    {
         match self.stream.write(piece) {
             Ok(n) if n > 0 => {
                 self.spare -= n;

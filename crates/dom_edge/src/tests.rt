@@ -67,7 +67,41 @@ impl Write for Full {
     }
 }
 
+/// A stream that takes a byte at a time, and keeps it.
+#[derive(Drop)]
+struct Dripping {
+    taken: Vec<u8>,
+}
+
+impl Write for Dripping {
+    ghost use Rattle.std.specs.Prelude.{Some};
+
+    ghost contents = { λ s. Some s.taken.items };
+
+    fn write(&mut self, buf: &[u8]) -> io::Result<usize> {
+        let Some(first) = buf.first() else {
+            return Ok(0);
+        };
+        self.taken.push(*first)?;
+        Ok(1)
+    }
+
+    fn flush(&mut self) -> io::Result<()> {
+        Ok(())
+    }
+}
+
 fn shared<T: Send + Sync>(_: &T) {}
+
+/// The numbers below 50,000 in two bytes each: no part of some bytes comes twice at a distance that is even.
+fn numbers(alloc: Global) -> Result<Vec<u8>, NoMemory> {
+    let mut text = Vec::new(alloc);
+    for i in 0..50_000u32 {
+        text.push((i % 256) as u8)?;
+        text.push((i / 256) as u8)?;
+    }
+    Ok(text)
+}
 
 fn long_text(alloc: Global) -> Result<Vec<u8>, NoMemory> {
     let mut text = Vec::new(alloc);
@@ -198,6 +232,45 @@ fn a_file_of_the_disk_is_read_back(rt: HostRuntime) -> Result<(), Fail> {
     assert_eq!(rt; Some(start.as_slice()), LINES.get(..5));
     let missing = read_whole(rt.alloc(), &mut folder, "none.txt", 100);
     assert_eq!(rt; missing.err(), Some(ReadError::Fault));
+    Ok(())
+}
+
+#[test]
+fn a_long_file_of_the_disk_is_read_from_each_place(rt: HostRuntime) -> Result<(), Fail> {
+    let text = numbers(rt.alloc())?;
+    fs::write(&rt, "numbers.bin", text.as_slice())?;
+    let mut folder = DiskFolder::new(&rt);
+    for at in [
+        0,
+        1,
+        65_534,
+        65_536,
+        65_537,
+        81_920,
+        99_997,
+        100_000,
+        1 << 40,
+    ] {
+        let mut buf = [0u8; 8];
+        let n = folder.read_at("numbers.bin", at, &mut buf)?;
+        let start = (at as usize).min(100_000);
+        assert_eq!(rt; n == 0, start == 100_000, "at {at}");
+        assert_eq!(rt; buf.get(..n), text.get(start..start + n), "at {at}");
+    }
+    let whole = read_whole(rt.alloc(), &mut folder, "numbers.bin", 200_000)?;
+    assert_eq!(rt; whole.as_slice(), text.as_slice());
+    fs::remove_file(&rt, "numbers.bin")?;
+    Ok(())
+}
+
+#[test]
+fn a_stream_that_takes_a_byte_at_a_time_gets_the_whole_text(rt: HostRuntime) -> Result<(), Fail> {
+    let taken = Vec::new(rt.alloc());
+    let mut stream = Dripping { taken };
+    let mut sink = StdSink::new(&mut stream);
+    sink.reserve(LINES.len())?;
+    write_whole(&mut sink, LINES)?;
+    assert_eq!(rt; stream.taken.as_slice(), LINES.as_slice());
     Ok(())
 }
 

@@ -1,9 +1,9 @@
 -- What a command leaves of the text that was read, it leaves of the file.
-use Rattle.std.proofs.Common.{◌≡◌, ℕ, ◌<◌, List, take}
+use Rattle.std.proofs.Common.{◌≡◌, ℕ, ◌<◌, List, take, subst}
 use Rattle.dom_edge.specs.File.{IsMissing, Holds}
 use Rattle.dom_top.specs.declared.answer.Answer.{Answer}
 use Rattle.dom_top.specs.declared.answer.Answer.TheVariants.{Best, Infeasible, Shown, ModelRefused, WordsRefused, ReadFault, WriteFault, NoMemory}
-use Rattle.dom_top.specs.Right.{Course, HasFile, IsAnswered}
+use Rattle.dom_top.specs.Right.{Course, HasFile, IsAnswered, most_read}
 use Rattle.dom_top.specs.Shown.{IsShownText}
 use Rattle.dom_top.specs.Solved.{IsSolvedText}
 use Rattle.dom_top.specs.Written.{Written}
@@ -34,14 +34,17 @@ shown_file limit above text file is out ReadFault s = absurd s
 shown_file limit above text file is out WriteFault s = has_file limit above text file is (λ t. IsShownText t out WriteFault) s.0 s.2.has s
 shown_file limit above text file is out NoMemory s = s
 
-module _ (c : Course) (model text : List ℕ) (limit : ℕ) (above : 16777216 < limit) (present : IsMissing (c.told model) → ⊥) (is : (file : List ℕ) → Holds (c.told model) file → text ≡ take limit file) where
+module _ (c : Course) (model text : List ℕ) (limit : ℕ) (above : 16777216 < limit) (present : IsMissing (c.told model) → ⊥) (is : (file : List ℕ) → Holds (c.told model) file → text ≡ take limit file) (most : limit ≡ most_read) where
+  far_of : (file : List ℕ) → Holds (c.told model) file → text ≡ take most_read file
+  far_of file holds = subst (λ n. text ≡ take n file) most (is file holds)
+
   solved_of : (answer : Answer) → IsSolvedText text c.out answer → HasFile c model (λ t. IsSolvedText t c.out answer)
   solved_of answer s =
-      record { present = present; text = text; read = s; file = λ file holds. solved_file limit above text file (is file holds) c.out answer s }
+      record { present = present; text = text; read = s; far = far_of; file = λ file holds. solved_file limit above text file (is file holds) c.out answer s }
 
   shown_of : (answer : Answer) → IsShownText text c.out answer → HasFile c model (λ t. IsShownText t c.out answer)
   shown_of answer s =
-      record { present = present; text = text; read = s; file = λ file holds. shown_file limit above text file (is file holds) c.out answer s }
+      record { present = present; text = text; read = s; far = far_of; file = λ file holds. shown_file limit above text file (is file holds) c.out answer s }
 
   pub solve_answered : (answer : Answer) → IsSolvedText text c.out answer → IsAnswered IsSolvedText c model answer
   solve_answered (Best values nodes nogoods) s = solved_of (Best values nodes nogoods) s

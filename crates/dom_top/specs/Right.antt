@@ -1,5 +1,5 @@
 -- When each answer of a run comes, and what stands after it.
-use Rattle.std.specs.Prelude.{◌≡◌, ◌⊎◌, ℕ, List, Option}
+use Rattle.std.specs.Prelude.{◌≡◌, ◌⊎◌, ℕ, List, take, Option}
 use Rattle.dom_edge.specs.Causes.{CountRose}
 use Rattle.dom_edge.specs.File.{IsMissing, Holds}
 use Rattle.dom_top.specs.declared.answer.Answer.{Answer}
@@ -16,14 +16,21 @@ pub record Course : Type 0 where
   pub reads_new : ℕ
   pub out : Written
 
+-- a course by its parts
 abbrev pub course : (List ℕ → Option (Option (List ℕ))) → ℕ → ℕ → Written → Course
 course told reads_old reads_new out = record { told = told; reads_old = reads_old; reads_new = reads_new; out = out }
 
--- the file is there, and the fact holds of the text that was read, and of the file's bytes where they are told
+-- how many bytes of a file are read at most: one more than a text may have
+abbrev pub most_read : ℕ
+most_read = 16777217
+
+-- the file is there, and the fact holds of the text that was read, and of the file's bytes where they are told; these were read to
+-- their end, or up to the most that is read
 pub record HasFile (c : Course) (model : List ℕ) (P : List ℕ → Type 0) : Type 0 where
   pub present : IsMissing (c.told model) → ⊥
   pub text : List ℕ
   pub read : P text
+  pub far : (bytes : List ℕ) → Holds (c.told model) bytes → text ≡ take most_read bytes
   pub file : (bytes : List ℕ) → Holds (c.told model) bytes → P bytes
 
 -- when each answer comes to a command over the model of this name, which leaves so much of a text

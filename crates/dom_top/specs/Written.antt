@@ -8,6 +8,7 @@ pub record Written : Type 0 where
   pub faults_old : ℕ
   pub faults_new : ℕ
 
+-- what was written, by its parts
 abbrev pub written : Option (List ℕ) → Option (List ℕ) → ℕ → ℕ → Written
 written old new faults_old faults_new = record { old = old; new = new; faults_old = faults_old; faults_new = faults_new }
 

@@ -1,7 +1,9 @@
+mod limits;
+
 use super::*;
 use dom_core::Values;
 use dom_edge::{MemFolder, MemSink, NeverFolder, NeverSink, Sink};
-use dom_model::Counted;
+use fzn_counts::Counted;
 use fzn_lex::LexError;
 use fzn_lower::ModelError;
 use fzn_syntax::SyntaxError;
