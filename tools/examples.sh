@@ -1,8 +1,9 @@
 #!/usr/bin/env bash
-# Solves every model under examples/ with the built program, and compares what it prints, what it tells on
-# standard error and its status with the files beside the model: NAME.out, NAME.err (none: nothing) and
-# NAME.status (none: 0). Where there is a NAME.shown, the model is shown as well, and what is printed compared
-# with it. The last line counts.
+# Solves every model under examples/, and those that tools/limit_models.sh writes, with the built program, and
+# compares what it prints, what it tells on standard error and its status with the files beside the model: NAME.out,
+# NAME.err (none: nothing) and NAME.status (none: 0). Where there is a NAME.shown, the model is shown as well, and
+# what is printed compared with it. Then looks at what ./dombreak tells where it is asked for help. The last line
+# counts.
 set -u
 cd "$(dirname "$0")/.." || exit 2
 program=crates/dombreak/out/dombreak
@@ -28,10 +29,27 @@ compare() {
   else
     failed=$((failed + 1))
     echo "FAILED $1 $2 (status $status)"
-    diff "$scratch/wanted_out" "$scratch/out"
-    diff "$scratch/wanted_err" "$scratch/err"
+    diff "$scratch/wanted_out" "$scratch/out" | head -n 20
+    diff "$scratch/wanted_err" "$scratch/err" | head -n 20
   fi
 }
+
+# compare_help WORD..: the script tells that the words are refused, and then how the program is used
+compare_help() {
+  ./dombreak "$@" >"$scratch/out" 2>"$scratch/err"
+  local status=$?
+  if [ ! -s "$scratch/out" ] && [ "$status" -eq 3 ] && [ "$(head -n 1 "$scratch/err")" = "dombreak: words refused" ] &&
+    [ "$(sed -n 2p "$scratch/err")" = "usage: ./dombreak solve MODEL" ]; then
+    passed=$((passed + 1))
+  else
+    failed=$((failed + 1))
+    echo "FAILED ./dombreak $* (status $status)"
+    cat "$scratch/err"
+  fi
+}
+
+mkdir "$scratch/limits"
+tools/limit_models.sh "$scratch/limits" || exit 2
 
 while IFS= read -r model; do
   base=${model%.fzn}
@@ -45,7 +63,10 @@ while IFS= read -r model; do
     : >"$scratch/wanted_err"
     compare show "$model" 0
   fi
-done < <(find examples -name '*.fzn' | sort)
+done < <(find examples "$scratch/limits" -name '*.fzn' | sort)
+
+compare_help
+compare_help --help
 
 echo "$passed passed, $failed failed"
 [ "$failed" -eq 0 ] && [ "$passed" -gt 0 ]
