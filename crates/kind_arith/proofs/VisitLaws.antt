@@ -7,7 +7,7 @@ use Rattle.dom_core.specs.declared.literal.Literal.{Literal}
 use Rattle.dom_core.specs.declared.literal.Rel.TheVariants.{Le, Ge}
 use Rattle.dom_core.specs.declared.set.Set.{Set}
 use Rattle.dom_core.specs.declared.var_id.VarId.{VarId}
-use Rattle.dom_core.proofs.TestLaws.{le_true, true_le, not_both}
+use Rattle.dom_core.proofs.TestLaws.{le_true, true_le, not_both, not_false}
 use Rattle.dom_cells.specs.Box.{kept}
 use Rattle.dom_cells.specs.Cell.{lo_of, hi_of, has_of, IsSane, IsCell}
 use Rattle.dom_cells.specs.declared.start.Start.{Start}
@@ -30,10 +30,6 @@ use Rattle.kind_arith.proofs.ArgumentLaws.{refuted_var}
 -- no value that the variable has left lies in the set
 abbrev pub apart : Set → VarId → (ℕ → Start) → Bool
 apart s u b = not (set_meets s (b u.0))
-
-not_false : (b : Bool) → (b ≡ true → ⊥) → not b ≡ true
-not_false true h = absurd (h refl)
-not_false false h = refl
 
 pub not_apart : (s : Set) (u : VarId) (b : ℕ → Start) (v : ℤ) → set_has s v ≡ true → has_of (b u.0) v ≡ true → apart s u b ≡ false
 not_apart s u b v in_set in_cell = ap not (common_meets s (b u.0) (record { value = v; in_set = in_set; in_cell = in_cell }))

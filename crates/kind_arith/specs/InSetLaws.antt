@@ -10,7 +10,8 @@ use Rattle.dom_core.specs.Ends.{Ends, only, lies_in}
 use Rattle.dom_core.specs.declared.arg.Arg.{Arg}
 use Rattle.dom_core.specs.declared.arg.Arg.TheVariants.{Var, Const}
 use Rattle.dom_core.specs.declared.view.Movement.{Movement}
-use Rattle.dom_core.proofs.TestLaws.{not_true, not_both, and_first, and_second, and_both}
+use Rattle.kind_law.proofs.OutputLaws.{still_ends}
+use Rattle.dom_core.proofs.TestLaws.{not_true, not_false, not_both, and_first, and_second, and_both}
 use Rattle.dom_cells.specs.Cell.{has_of}
 use Rattle.dom_cells.specs.declared.start.Start.{Start}
 use Rattle.dom_cells.specs.declared.start.Start.TheVariants.{Span}
@@ -19,10 +20,6 @@ use Rattle.kind_law.specs.Argument.{arg_vars, arg_value, arg_left, arg_movement}
 use Rattle.kind_parts.specs.Set.{set_meets, set_keeps}
 use Rattle.kind_parts.proofs.SetLaws.{Common, between, meets_common, common_meets, meets_point, set_stays}
 use Rattle.kind_arith.specs.InSet.{Restriction, restricted_vars, restriction_met, restriction_refuted, restriction_kept}
-
-not_false : (b : Bool) → (b ≡ true → ⊥) → not b ≡ true
-not_false true h = absurd (h refl)
-not_false false h = refl
 
 pub restriction-fits : (k : Restriction) → FitsLaw (restricted_vars k) (λ s. Unit {0})
 restriction-fits k small large within fits = tt
@@ -74,13 +71,8 @@ zero_keeps (Range lo hi) after =
     and_both (int_le after.hi hi || true) (int_le lo after.lo || true) (or_right (int_le after.hi hi) true refl) (or_right (int_le lo after.lo) true refl)
 zero_keeps (Values xs) after = refl
 
-zero_ends : (e : Ends) → is_still e ≡ true → e ≡ only (pos 0)
-zero_ends e h =
-    ap (λ (x : ℤ). let d : Ends = record { lo = x; hi = e.hi } in d) (int_eq_same e.lo (pos 0) (and_first (int_eq e.lo (pos 0)) (int_eq e.hi (pos 0)) h))
-    ∙ ap (λ (x : ℤ). let d : Ends = record { lo = pos 0; hi = x } in d) (int_eq_same e.hi (pos 0) (and_second (int_eq e.lo (pos 0)) (int_eq e.hi (pos 0)) h))
-
 still_change : (view : List Movement) (x : Arg) → all_still (arg_vars x) view ≡ true → (arg_movement view x).change ≡ only (pos 0)
-still_change view (Var u) h = zero_ends (movement_at view u.0).change (and_first (is_still (movement_at view u.0).change) true h)
+still_change view (Var u) h = still_ends (movement_at view u.0).change (and_first (is_still (movement_at view u.0).change) true h)
 still_change view (Const c) h = refl
 
 pub restriction-still : (k : Restriction) → StillLaw (restricted_vars k) (restriction_kept k)

@@ -71,7 +71,8 @@ output_keeps two inputs given ranged changed x range change bits view a b c h m 
       output_change = arg_moved view a b x both.1;
     }) (λ e. bits e b) h m
 
-still_ends : (e : Ends) → is_still e ≡ true → e ≡ only (pos 0)
+-- a change that is still is 0
+pub still_ends : (e : Ends) → is_still e ≡ true → e ≡ only (pos 0)
 still_ends e h =
     ap (λ (x : ℤ). let d : Ends = record { lo = x; hi = e.hi } in d) (int_eq_same e.lo (pos 0) (and_first (int_eq e.lo (pos 0)) (int_eq e.hi (pos 0)) h))
     ∙ ap (λ (x : ℤ). let d : Ends = record { lo = pos 0; hi = x } in d) (int_eq_same e.hi (pos 0) (and_second (int_eq e.lo (pos 0)) (int_eq e.hi (pos 0)) h))

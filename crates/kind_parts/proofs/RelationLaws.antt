@@ -5,7 +5,7 @@ use Rattle.std.specs.Ordering.{int_eq}
 use Rattle.dom_core.specs.Ends.{Ends, only, lies_in}
 use Rattle.dom_core.specs.declared.relation.Relation.{Relation}
 use Rattle.dom_core.specs.declared.relation.Relation.TheVariants.{AtMost, Equal, Differ}
-use Rattle.dom_core.proofs.TestLaws.{le_true, true_le, not_true, and_first, and_second, and_both, not_both, true_or_false}
+use Rattle.dom_core.proofs.TestLaws.{le_true, true_le, not_true, not_false, and_first, and_second, and_both, not_both, true_or_false}
 use Rattle.dom_core.proofs.RisesLaws.{same_test, int_eq_same, int_eq_from, or_true}
 use Rattle.dom_core.proofs.ProductLaws.{lt_true}
 use Rattle.kind_law.specs.Laws.{EndsIn}
@@ -17,10 +17,6 @@ use Rattle.kind_law.proofs.ChangeLaws.{difference_has}
 
 lt_from : (a b : ℤ) → a <ℤ b → int_lt a b ≡ true
 lt_from a b h = grind (arith, ints)
-
-not_false : (b : Bool) → (b ≡ true → ⊥) → not b ≡ true
-not_false true h = absurd (h refl)
-not_false false h = refl
 
 -- smaller intervals are refuted where larger ones are
 pub refuted_smaller : (r : Relation) (small large : Ends) (c : ℤ) → EndsIn small large → refuted_by r large c ≡ true → refuted_by r small c ≡ true

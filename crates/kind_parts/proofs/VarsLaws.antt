@@ -7,7 +7,7 @@ use Rattle.std.proofs.lemmas.List.Folds.{list_any-append}
 use Rattle.dom_core.specs.declared.arg.Arg.{Arg}
 use Rattle.dom_core.specs.declared.arg.Arg.TheVariants.{Var, Const}
 use Rattle.dom_core.specs.declared.var_id.VarId.{VarId}
-use Rattle.dom_core.proofs.TestLaws.{and_first, and_second, not_true, not_both}
+use Rattle.dom_core.proofs.TestLaws.{and_first, and_second, neither, not_true, not_both}
 use Rattle.kind_law.specs.Argument.{with_arg, is_listed, is_new, with_new, collected, distinct}
 use Rattle.kind_law.specs.Laws.{Each}
 use Rattle.kind_parts.specs.Vars.{are_new, are_distinct, Gathered, gathered_more, TellsListed}
@@ -106,10 +106,6 @@ distinct_all vs h = (all_new [] vs h).1
 -- variables that are new are not this one
 abbrev pub Bars : VarId → List VarId → Type 0
 Bars u seen = (w : VarId) → is_listed w seen ≡ false → w.0 ≡ u.0 → ⊥
-
-neither : (a b : Bool) → (a || b) ≡ false → (a ≡ false) × (b ≡ false)
-neither true b h = absurd (cc)
-neither false b h = (refl, h)
 
 listed_push : (w : VarId) (xs : List VarId) (v : VarId) → is_listed w (xs ++ v ∷ []) ≡ false → (is_listed w xs ≡ false) × ((v.0 == w.0) ≡ false)
 listed_push w [] v h = (refl, (neither (v.0 == w.0) false h).0)

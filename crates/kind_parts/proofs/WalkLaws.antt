@@ -12,6 +12,7 @@ use Rattle.kind_law.specs.Argument.{ArgHas, with_arg, distinct}
 use Rattle.kind_law.specs.Laws.{Each}
 use Rattle.kind_law.specs.Next.{HasNoEnd, IsNext}
 use Rattle.kind_law.specs.Visit.{AreEnds}
+use Rattle.kind_law.proofs.ArgumentLaws.{split_arg}
 use Rattle.kind_law.proofs.NextLaws.{next_found, not_some}
 use Rattle.kind_law.proofs.VisitLaws.{ends_push, ends_same, append_nothing}
 use Rattle.kind_parts.specs.Vars.{variables_of, are_distinct}
@@ -37,15 +38,15 @@ variables_here xs i d u lt e =
     ap variables_of (split_here xs i d lt) ∙ variables-append (take i xs) (get_or xs i d ∷ drop (i + 1) xs)
     ∙ ap (λ (x : Arg). variables_of (take i xs) ++ with_arg x (variables_of (drop (i + 1) xs))) e
 
-read_after : (vs : List VarId) (u : VarId) (ws : List VarId) → slice_get (vs ++ u ∷ ws) (length vs) ≡ Some u
+pub read_after : (vs : List VarId) (u : VarId) (ws : List VarId) → slice_get (vs ++ u ∷ ws) (length vs) ≡ Some u
 read_after [] u ws = refl
 read_after (v ∷ vs) u ws = read_after vs u ws
 
-within_after : (vs : List VarId) (u : VarId) (ws : List VarId) → length vs < length (vs ++ u ∷ ws)
+pub within_after : (vs : List VarId) (u : VarId) (ws : List VarId) → length vs < length (vs ++ u ∷ ws)
 within_after [] u ws = omega arith
 within_after (v ∷ vs) u ws = let h : length vs < length (vs ++ u ∷ ws) = within_after vs u ws in omega arith
 
-taken_before : (vs ws : List VarId) → take (length vs) (vs ++ ws) ≡ vs
+pub taken_before : (vs ws : List VarId) → take (length vs) (vs ++ ws) ≡ vs
 taken_before [] ws = refl
 taken_before (v ∷ vs) ws = ap (λ (us : List VarId). v ∷ us) (taken_before vs ws)
 
@@ -55,7 +56,7 @@ taken_next (x ∷ xs) zero d lt = refl
 taken_next (x ∷ xs) (suc i) d lt = ap (λ (ys : List Arg). x ∷ ys) (taken_next xs i d (omega arith))
 
 -- the variables up to the next place
-variables_next : (xs : List Arg) (i : ℕ) (d : Arg) → i < length xs → variables_of (take (i + 1) xs) ≡ variables_of (take i xs) ++ with_arg (get_or xs i d) []
+pub variables_next : (xs : List Arg) (i : ℕ) (d : Arg) → i < length xs → variables_of (take (i + 1) xs) ≡ variables_of (take i xs) ++ with_arg (get_or xs i d) []
 variables_next xs i d lt = rw (add-one) (ap variables_of (taken_next xs i d lt) ∙ variables-append (take i xs) (get_or xs i d ∷ []))
 
 take_all_of : (xs : List Arg) (i : ℕ) → length xs ≤ i → take i xs ≡ xs
@@ -64,8 +65,16 @@ take_all_of [] (suc i) h = refl
 take_all_of (x ∷ xs) zero h = absurd (omega arith)
 take_all_of (x ∷ xs) (suc i) h = ap (λ (ys : List Arg). x ∷ ys) (take_all_of xs i (omega arith))
 
-all_taken : (xs : List Arg) (i : ℕ) → length xs ≤ i → are_distinct (variables_of xs) ≡ true → variables_of (take i xs) ≡ distinct (variables_of xs)
+pub all_taken : (xs : List Arg) (i : ℕ) → length xs ≤ i → are_distinct (variables_of xs) ≡ true → variables_of (take i xs) ≡ distinct (variables_of xs)
 all_taken xs i h single = ap variables_of (take_all_of xs i h) ∙ sym (distinct_all (variables_of xs) single)
+
+-- the ends with that of one argument more
+pub arg_more : (refuted : (ℕ → Start) → Bool) (vs : List VarId) (b : ℕ → Start) (n : ℕ) (x : Arg) (ls : List Literal) (r : Option Literal) → AreEnds refuted vs b n ls
+    → ArgHas (λ u. u.0 < n) x → ArgHas (λ u. IsSane (b u.0)) x → IsArgEnd refuted b x r → AreEnds refuted (vs ++ with_arg x []) b n (ls ++ option_to_list r)
+arg_more refuted vs b n (Var u) ls r h lt s e = ends_push refuted vs b n u ls r h lt s e
+arg_more refuted vs b n (Const c) ls r h lt s e =
+    subst (λ (q : Option Literal). AreEnds refuted (vs ++ []) b n (ls ++ option_to_list q)) (sym e)
+    (subst (λ (ks : List Literal). AreEnds refuted (vs ++ []) b n ks) (sym (append_nothing ls)) (ends_same refuted (vs ++ []) vs b n ls (sym (append_none vs)) h))
 
 module _ (refuted : (ℕ → Start) → Bool) (xs : List Arg) (b : ℕ → Start) (i : ℕ) where
   -- ---- the first end
@@ -104,20 +113,12 @@ module _ (refuted : (ℕ → Start) → Bool) (xs : List Arg) (b : ℕ → Start
 
   -- ---- all ends
 
-  ends_at : (x : Arg) (n : ℕ) (ls : List Literal) (r : Option Literal) → AreEnds refuted (variables_of (take i xs)) b n ls → ArgHas (λ u. u.0 < n) x
-      → ArgHas (λ u. IsSane (b u.0)) x → IsArgEnd refuted b x r → AreEnds refuted (variables_of (take i xs) ++ with_arg x []) b n (ls ++ option_to_list r)
-  ends_at (Var u) n ls r h lt s e = ends_push refuted (variables_of (take i xs)) b n u ls r h lt s e
-  ends_at (Const c) n ls r h lt s e =
-      subst (λ (q : Option Literal). AreEnds refuted (variables_of (take i xs) ++ []) b n (ls ++ option_to_list q)) (sym e)
-      (subst (λ (ks : List Literal). AreEnds refuted (variables_of (take i xs) ++ []) b n ks) (sym (append_nothing ls))
-      (ends_same refuted (variables_of (take i xs) ++ []) (variables_of (take i xs)) b n ls (sym (append_none (variables_of (take i xs)))) h))
-
   pub ends_here : (n : ℕ) (d : Arg) (ls : List Literal) (r : Option Literal) → i < length xs → AreEnds refuted (variables_of (take i xs)) b n ls
       → ArgHas (λ u. u.0 < n) (get_or xs i d) → ArgHas (λ u. IsSane (b u.0)) (get_or xs i d) → IsArgEnd refuted b (get_or xs i d) r
       → AreEnds refuted (variables_of (take (i + 1) xs)) b n (ls ++ option_to_list r)
   ends_here n d ls r lt h below sane e =
       ends_same refuted (variables_of (take (i + 1) xs)) (variables_of (take i xs) ++ with_arg (get_or xs i d) []) b n (ls ++ option_to_list r)
-      (sym (variables_next xs i d lt)) (ends_at (get_or xs i d) n ls r h below sane e)
+      (sym (variables_next xs i d lt)) (arg_more refuted (variables_of (take i xs)) b n (get_or xs i d) ls r h below sane e)
 
   pub ends_done : (n : ℕ) (ls : List Literal) → length xs ≤ i → are_distinct (variables_of xs) ≡ true → AreEnds refuted (variables_of (take i xs)) b n ls
       → AreEnds refuted (distinct (variables_of xs)) b n ls
@@ -125,11 +126,7 @@ module _ (refuted : (ℕ → Start) → Bool) (xs : List Arg) (b : ℕ → Start
 
 -- ---- what holds of all variables holds of each argument
 
-split_head : (P : VarId → Type 0) (x : Arg) (vs : List VarId) → Each P (with_arg x vs) → ArgHas P x × Each P vs
-split_head P (Var u) vs h = h
-split_head P (Const c) vs h = (tt, h)
-
 pub at_place : (P : VarId → Type 0) (xs : List Arg) (i : ℕ) (d : Arg) → i < length xs → Each P (variables_of xs) → ArgHas P (get_or xs i d)
 at_place P [] i d lt h = absurd (omega arith)
-at_place P (x ∷ xs) zero d lt h = (split_head P x (variables_of xs) h).0
-at_place P (x ∷ xs) (suc i) d lt h = at_place P xs i d (omega arith) (split_head P x (variables_of xs) h).1
+at_place P (x ∷ xs) zero d lt h = (split_arg P x (variables_of xs) h).0
+at_place P (x ∷ xs) (suc i) d lt h = at_place P xs i d (omega arith) (split_arg P x (variables_of xs) h).1

@@ -1,5 +1,6 @@
 pub mod Relation
 pub mod Set
+pub mod Told
 pub mod Vars
 pub mod Walk
 pub use Rattle.dom_core.specs.Ends

@@ -4,7 +4,7 @@ ghost use Rattle.dom_cells.specs.Box.{cell_of};
 ghost use Rattle.kind_law.specs.Argument.{distinct};
 ghost use Rattle.kind_law.specs.Laws.{AllBelow};
 ghost use Rattle.kind_law.specs.Next.{IsNext};
-ghost use Rattle.kind_law.specs.Visit.{AreEnds};
+ghost use Rattle.kind_parts.specs.Told.{AreTold};
 ghost use Rattle.kind_parts.specs.Vars.{are_distinct, variables_of};
 
 use dom_cells::Cells;
@@ -65,10 +65,11 @@ pub fn write_ends_in_turn<P: Places>(
     requires single { are_distinct (variables_of (P.args places.now)) ≡ true }
     requires below { AllBelow (length cells.now.state.starts) (distinct (variables_of (P.args places.now))) }
     requires empty { ends.old ≡ [] }
-    ensures { OnOk result (AreEnds (P.refuted places.now) (distinct (variables_of (P.args places.now))) (cell_of cells.now.state) (length cells.now.state.starts) ends.new) }
+    ensures { OnOk result (AreTold (P.refuted places.now) (distinct (variables_of (P.args places.now))) (cell_of cells.now.state) (length cells.now.state.starts) ends.new) }
 {
     let _width = cells.width();
-    for at in 0..places.len() {
+    let count = places.len();
+    for at in 0..count {
         let end = places.end_at(cells, at);
         add_implied(end, ends)?;
     }

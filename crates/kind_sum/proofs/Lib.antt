@@ -1,4 +1,3 @@
-pub mod BatchLaws
 pub mod EndLaws
 pub mod ExplainedLaws
 pub mod KeepLaws
@@ -6,6 +5,5 @@ pub mod QuietLaws
 pub mod ReachLaws
 pub mod RunLaws
 pub mod SlackLaws
-pub mod ToldLaws
 pub mod VarLaws
 pub mod WidthLaws

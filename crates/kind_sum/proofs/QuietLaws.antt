@@ -33,7 +33,7 @@ use Rattle.kind_sum.specs.SumRelationLaws.{sum-fits}
 use Rattle.kind_parts.specs.Relation.{refuted_by}
 use Rattle.kind_sum.specs.Slack.{HasSingles, IsSlack}
 use Rattle.kind_sum.specs.Sum.{total, vars_of}
-use Rattle.kind_sum.specs.Told.{AreTold, IsTold}
+use Rattle.kind_parts.specs.Told.{AreTold, IsTold}
 use Rattle.dom_core.specs.declared.relation.Relation.{Relation}
 use Rattle.dom_core.specs.declared.relation.Relation.TheVariants.{AtMost, Equal, Differ}
 use Rattle.kind_sum.specs.declared.term.Term.{Term}

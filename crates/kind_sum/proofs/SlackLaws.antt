@@ -1,7 +1,7 @@
 -- What changing one term's variable makes of a sum.
 use Rattle.std.proofs.Common.{◌≡◌, ℕ, zero, suc, ◌+◌, ◌<◌, ◌≤◌, ◌^◌, Bool, true, false, List, [], ◌∷◌, ◌++◌, length, take, drop, get_or, ℤ, ◌+ℤ◌, ◌-ℤ◌, ◌≤ℤ◌, refl, sym, ◌∙◌, ap, subst, arith, Some, None, Option, is_some, slice_get, add-one}
 use Rattle.std.proofs.lemmas.Int.{ints}
-use Rattle.std.proofs.lemmas.List.{take-append-drop, drop_more}
+use Rattle.std.proofs.lemmas.List.{take-append-drop, drop_more, map-append, get_or-map, length-map}
 use Rattle.dom_cells.specs.Box.{kept}
 use Rattle.dom_cells.specs.Cell.{IsSane, ends_of}
 use Rattle.dom_core.specs.Ends.{Ends, sum_ends, scaled_ends, size_of, replaced_ends}
@@ -13,20 +13,18 @@ use Rattle.dom_core.specs.declared.var_id.VarId.{VarId}
 use Rattle.dom_cells.proofs.BoxLaws.{cut_at-other, sane-ends}
 use Rattle.dom_core.proofs.EndsLaws.{replaced_sum}
 use Rattle.kind_law.specs.Laws.{Each, EndsIn, hulls}
-use Rattle.kind_law.specs.Next.{HasNoEnd, IsNext}
 use Rattle.kind_law.proofs.EachLaws.{each_map}
-use Rattle.kind_law.proofs.NextLaws.{next_found, not_some}
 use Rattle.kind_sum.specs.InsertLaws.{total-insert, total_same, each-insert}
-use Rattle.kind_parts.specs.Vars.{are_distinct}
-use Rattle.kind_parts.proofs.VarsLaws.{append_none, each_append, distinct_all, apart_from_others}
+use Rattle.kind_parts.specs.Vars.{are_distinct, variables_of}
+use Rattle.kind_parts.proofs.VarsLaws.{each_append, distinct_all, apart_from_others}
+use Rattle.kind_parts.proofs.WalkLaws.{variables-append, read_after}
 use Rattle.kind_sum.specs.SumRelation.{SumRelation, sum_vars, SumFits}
 use Rattle.kind_law.proofs.ArgumentLaws.{each_listed}
 use Rattle.kind_sum.specs.SumLaws.{total_size, total_within}
 use Rattle.kind_law.specs.declared.argument.Reading.TheVariants.{Values}
 use Rattle.kind_sum.specs.Slack.{HasSingles, IsSlack}
-use Rattle.kind_parts.specs.Walk.{IsArgEnd}
 use Rattle.kind_law.specs.Argument.{arg_ends, with_arg}
-use Rattle.kind_sum.specs.Sum.{total, magnitude, vars_of}
+use Rattle.kind_sum.specs.Sum.{total, magnitude, args_of, vars_of}
 use Rattle.kind_sum.specs.declared.term.Term.{Term}
 
 -- ---- a sum with one part replaced
@@ -55,13 +53,15 @@ rest_is k c known b u s =
 
 -- ---- sums without repeated variables
 
-with_append : (x : Arg) (xs ys : List VarId) → with_arg x xs ++ ys ≡ with_arg x (xs ++ ys)
-with_append (Var u) xs ys = refl
-with_append (Const c) xs ys = refl
-
 pub vars_of-append : (xs ys : List Term) → vars_of (xs ++ ys) ≡ vars_of xs ++ vars_of ys
-vars_of-append [] ys = refl
-vars_of-append (t ∷ ts) ys = ap (with_arg t.arg) (vars_of-append ts ys) ∙ sym (with_append t.arg (vars_of ts) (vars_of ys))
+vars_of-append xs ys = ap variables_of (map-append (λ (t : Term). t.arg) xs ys) ∙ variables-append (args_of xs) (args_of ys)
+
+-- the argument at a place is that of the term there
+pub arg_here : (ts : List Term) (i : ℕ) (d : Term) (e : Arg) → i < length ts → get_or (args_of ts) i e ≡ (get_or ts i d).arg
+arg_here ts i d e lt = get_or-map (λ (t : Term). t.arg) ts i d e lt
+
+pub args_count : (ts : List Term) → length (args_of ts) ≡ length ts
+args_count ts = length-map ts (λ (t : Term). t.arg)
 
 pub single_vars : (k : SumRelation) → HasSingles k → sum_vars k ≡ vars_of k.terms
 single_vars k h = distinct_all (vars_of k.terms) h
@@ -93,73 +93,13 @@ slack_here k i d u known b lt e single sum fits =
       fits = fits;
     }
 
--- ---- the first end in turn
-
-pub read_after : (xs : List VarId) (u : VarId) (ys : List VarId) → slice_get (xs ++ u ∷ ys) (length xs) ≡ Some u
-read_after [] u ys = refl
-read_after (x ∷ xs) u ys = read_after xs u ys
-
-pub within_after : (xs : List VarId) (u : VarId) (ys : List VarId) → length xs < length (xs ++ u ∷ ys)
-within_after [] u ys = omega arith
-within_after (x ∷ xs) u ys = let h : length xs < length (xs ++ u ∷ ys) = within_after xs u ys in omega arith
-
-pub taken_before : (xs : List VarId) (ys : List VarId) → take (length xs) (xs ++ ys) ≡ xs
-taken_before [] ys = refl
-taken_before (x ∷ xs) ys = ap (λ (zs : List VarId). x ∷ zs) (taken_before xs ys)
+-- ---- the variable of a term
 
 pub place_here : (k : SumRelation) (i : ℕ) (d : Term) (u : VarId) → i < length k.terms → (get_or k.terms i d).arg ≡ Var u → HasSingles k
     → slice_get (sum_vars k) (length (vars_of (take i k.terms))) ≡ Some u
 place_here k i d u lt e single =
     ap (λ (vs : List VarId). slice_get vs (length (vars_of (take i k.terms)))) (single_vars k single ∙ vars_here k i d u lt e)
     ∙ read_after (vars_of (take i k.terms)) u (vars_of (drop (i + 1) k.terms))
-
-found_at : (refuted : (ℕ → Start) → Bool) (k : SumRelation) (b : ℕ → Start) (i : ℕ) (d : Term) (x : Arg) (r : Option Literal) → i < length k.terms
-    → (get_or k.terms i d).arg ≡ x → HasSingles k → is_some r ≡ true → Each (HasNoEnd refuted b) (vars_of (take i k.terms)) → IsArgEnd refuted b x r
-    → IsNext refuted (sum_vars k) b r
-found_at refuted k b i d (Var u) r lt e single some none end =
-    let vars : sum_vars k ≡ vars_of (take i k.terms) ++ u ∷ vars_of (drop (i + 1) k.terms) = single_vars k single ∙ vars_here k i d u lt e in
-    next_found refuted (sum_vars k) b (length (vars_of (take i k.terms))) u r some (place_here k i d u lt e single)
-    (subst (λ (vs : List VarId). length (vars_of (take i k.terms)) < length vs) (sym vars) (within_after (vars_of (take i k.terms)) u (vars_of (drop (i + 1) k.terms))))
-    (subst (λ (vs : List VarId). Each (HasNoEnd refuted b) (take (length (vars_of (take i k.terms))) vs)) (sym vars)
-    (subst (Each (HasNoEnd refuted b)) (sym (taken_before (vars_of (take i k.terms)) (u ∷ vars_of (drop (i + 1) k.terms)))) none)) end
-found_at refuted k b i d (Const v) None lt e single some none end = absurd (cc)
-found_at refuted k b i d (Const v) (Some l) lt e single some none end = absurd (cc)
-
-pub found_here : (refuted : (ℕ → Start) → Bool) (k : SumRelation) (b : ℕ → Start) (i : ℕ) (d : Term) (r : Option Literal) → i < length k.terms → HasSingles k
-    → is_some r ≡ true → Each (HasNoEnd refuted b) (vars_of (take i k.terms)) → IsArgEnd refuted b (get_or k.terms i d).arg r → IsNext refuted (sum_vars k) b r
-found_here refuted k b i d r lt single some none end = found_at refuted k b i d (get_or k.terms i d).arg r lt refl single some none end
-
-arg_none : (refuted : (ℕ → Start) → Bool) (b : ℕ → Start) (x : Arg) (vs : List VarId) → IsArgEnd refuted b x None → Each (HasNoEnd refuted b) vs
-    → Each (HasNoEnd refuted b) (vs ++ with_arg x [])
-arg_none refuted b (Var u) vs end none = each_append (HasNoEnd refuted b) vs (u ∷ []) none (end, tt)
-arg_none refuted b (Const c) vs end none = subst (Each (HasNoEnd refuted b)) (sym (append_none vs)) none
-
-taken_next : (ts : List Term) (i : ℕ) (d : Term) → i < length ts → take (suc i) ts ≡ take i ts ++ get_or ts i d ∷ []
-taken_next [] i d lt = absurd (omega arith)
-taken_next (t ∷ ts) zero d lt = refl
-taken_next (t ∷ ts) (suc i) d lt = ap (λ (us : List Term). t ∷ us) (taken_next ts i d (omega arith))
-
-pub taken_more : (ts : List Term) (i : ℕ) (d : Term) → i < length ts → take (i + 1) ts ≡ take i ts ++ get_or ts i d ∷ []
-taken_more ts i d lt = rw (add-one) (taken_next ts i d lt)
-
--- no end at this term
-pub none_here : (refuted : (ℕ → Start) → Bool) (k : SumRelation) (b : ℕ → Start) (i : ℕ) (d : Term) (r : Option Literal) → i < length k.terms
-    → is_some r ≡ false → Each (HasNoEnd refuted b) (vars_of (take i k.terms)) → IsArgEnd refuted b (get_or k.terms i d).arg r
-    → Each (HasNoEnd refuted b) (vars_of (take (i + 1) k.terms))
-none_here refuted k b i d r lt none before end =
-    subst (Each (HasNoEnd refuted b)) (sym (ap vars_of (taken_more k.terms i d lt) ∙ vars_of-append (take i k.terms) (get_or k.terms i d ∷ [])))
-    (arg_none refuted b (get_or k.terms i d).arg (vars_of (take i k.terms)) (subst (IsArgEnd refuted b (get_or k.terms i d).arg) (not_some r none) end) before)
-
-pub take_all_of : (ts : List Term) (i : ℕ) → length ts ≤ i → take i ts ≡ ts
-take_all_of [] zero h = refl
-take_all_of [] (suc i) h = refl
-take_all_of (t ∷ ts) zero h = absurd (omega arith)
-take_all_of (t ∷ ts) (suc i) h = ap (λ (us : List Term). t ∷ us) (take_all_of ts i (omega arith))
-
-pub none_at_all : (refuted : (ℕ → Start) → Bool) (k : SumRelation) (b : ℕ → Start) (i : ℕ) → length k.terms ≤ i → HasSingles k
-    → Each (HasNoEnd refuted b) (vars_of (take i k.terms)) → IsNext refuted (sum_vars k) b None
-none_at_all refuted k b i h single none =
-    subst (Each (HasNoEnd refuted b)) (sym (single_vars k single)) (subst (λ (ts : List Term). Each (HasNoEnd refuted b) (vars_of ts)) (take_all_of k.terms i h) none)
 
 -- ---- the term and the others
 

@@ -8,7 +8,6 @@ pub mod SumLaws
 pub mod SumRelation
 pub mod SumRelationLaws
 pub mod SumRelationStill
-pub mod Told
 pub use Rattle.dom_core.specs.Ends
 pub use Rattle.dom_core.specs.Assignment
 pub use Rattle.kind_law.specs.Laws

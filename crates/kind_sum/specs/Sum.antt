@@ -1,9 +1,10 @@
 -- Sums of terms.
-use Rattle.std.specs.Prelude.{◌+◌, List, [], ◌∷◌, ℕ, ℤ, pos, ◌+ℤ◌, ◌*ℤ◌}
+use Rattle.std.specs.Prelude.{◌+◌, List, [], ◌∷◌, ℕ, ℤ, pos, ◌+ℤ◌, ◌*ℤ◌, map}
 use Rattle.dom_core.specs.Ends.{Ends, only, sum_ends, scaled_ends, size_of}
 use Rattle.dom_core.specs.declared.arg.Arg.{Arg}
 use Rattle.dom_core.specs.declared.var_id.VarId.{VarId}
-use Rattle.kind_law.specs.Argument.{arg_value, with_arg}
+use Rattle.kind_law.specs.Argument.{arg_value}
+use Rattle.kind_parts.specs.Vars.{variables_of}
 use Rattle.kind_sum.specs.declared.term.Term.{Term}
 
 -- the sum of the terms under intervals of their arguments
@@ -27,7 +28,10 @@ terms_of [] args = []
 terms_of (c ∷ cs) [] = []
 terms_of (c ∷ cs) (x ∷ xs) = record { coef = c; arg = x } ∷ terms_of cs xs
 
+-- the arguments of the terms
+abbrev pub args_of : List Term → List Arg
+args_of ts = map (λ t. t.arg) ts
+
 -- the variables of the terms
 abbrev pub vars_of : List Term → List VarId
-vars_of [] = []
-vars_of (t ∷ ts) = with_arg t.arg (vars_of ts)
+vars_of ts = variables_of (args_of ts)

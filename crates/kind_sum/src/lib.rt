@@ -2,6 +2,7 @@
 #![tactic(auto)]
 
 mod explained;
+mod known;
 mod reach;
 mod slack;
 mod sum_relation;

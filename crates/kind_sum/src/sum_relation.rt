@@ -6,7 +6,7 @@ ghost use Rattle.kind_sum.specs.Place.{can_define};
 ghost use Rattle.kind_sum.specs.SumRelation.{may_follow, stays_by};
 
 use crate::explained::write_sum_reason;
-use crate::slack::Slack;
+use crate::known::KnownSum;
 use crate::term::{Term, is_unit, pair_up};
 use crate::terms::{is_alone, term_vars};
 use crate::total::total_of;
@@ -16,9 +16,12 @@ use dom_core::{
     After, Arg, Assignment, Changes, Clause, Interval, Intervals, Literal, Relation, VarId, View,
 };
 use kind_law::{
-    Kind, Propagate, Reading, Scratch, Visited, add_implied, next_of, reason_of, visit_of,
+    Kind, Propagate, Reading, Scratch, Visited, next_of, reason_of, visit_of,
 };
-use kind_parts::{is_certain, is_difference, is_equality, is_met, is_only, is_refuted, truth_over};
+use kind_parts::{
+    first_in_turn, is_certain, is_difference, is_equality, is_met, is_only, is_refuted, truth_over,
+    write_ends_in_turn,
+};
 use std::alloc::{AllocError, Global};
 use std::marker::Model;
 
@@ -46,15 +49,12 @@ impl Model for SumRelation {
 impl SumRelation {
     ghost use Rattle.std.specs.Prelude.{◌≡◌, ◌<◌, ◌≤◌, ◌^◌, false, true, IfOk, OnOk, OnErr, []};
     ghost use Rattle.kind_law.specs.Visit.{IsVisited};
-    ghost use Rattle.kind_sum.specs.Told.{AreTold};
     ghost use Rattle.dom_cells.specs.Box.{cell_of};
     ghost use Rattle.kind_law.specs.Laws.{Each, AllBelow, hulls};
-    ghost use Rattle.kind_law.specs.Next.{IsNext};
     ghost use Rattle.kind_sum.specs.SumRelation.{sum_vars, sum_refuted, SumFits};
     ghost use Rattle.dom_core.specs.Ends.{HasBits};
     ghost use Rattle.kind_parts.specs.Relation.{truth_over};
-    ghost use Rattle.kind_sum.specs.Slack.{term_at, HasSingles};
-    ghost use Rattle.kind_parts.specs.Walk.{IsArgEnd};
+    ghost use Rattle.kind_sum.specs.Slack.{HasSingles};
     ghost use Rattle.kind_law.specs.Argument.{arg_span, arg_ends};
     ghost use Rattle.kind_sum.specs.Sum.{total, magnitude};
 
@@ -125,48 +125,6 @@ impl SumRelation {
         truth_over(self.relation, total, self.bound)
     }
 
-    /// The first implied end, where no variable comes twice, the terms being taken in turn.
-    fn first_in_turn(&self, cells: &Cells, known: Interval) -> Option<Literal>
-        requires single { HasSingles self.now }
-        requires below { AllBelow (length cells.now.state.starts) (sum_vars self.now) }
-        requires sum { known ≡ total self.now.terms (arg_ends (hulls (cell_of cells.now.state))) }
-        requires fits { SumFits self.now (hulls (cell_of cells.now.state)) }
-        requires quiet { sum_refuted self.now (cell_of cells.now.state) ≡ false }
-        ensures { IsNext (sum_refuted self.now) (sum_vars self.now) (cell_of cells.now.state) result }
-    {
-        for at in 0..self.terms.len() {
-            let end = self.end_of(cells, known, at);
-            if end.is_some() {
-                return end;
-            }
-        }
-        None
-    }
-
-    /// Writes for each variable the end that is implied, the lower one first, where none comes twice.
-    fn ends_in_turn(
-        &self,
-        cells: &Cells,
-        known: Interval,
-        out: &mut Clause,
-    ) -> Result<(), AllocError>
-        requires single { HasSingles self.now }
-        requires below { AllBelow (length cells.now.state.starts) (sum_vars self.now) }
-        requires sum { known ≡ total self.now.terms (arg_ends (hulls (cell_of cells.now.state))) }
-        requires fits { SumFits self.now (hulls (cell_of cells.now.state)) }
-        requires quiet { sum_refuted self.now (cell_of cells.now.state) ≡ false }
-        requires empty { out.old ≡ [] }
-        ensures { OnOk result (AreTold (sum_refuted self.now) (sum_vars self.now) (cell_of cells.now.state) (length cells.now.state.starts) out.new) }
-    {
-        let _width = cells.width();
-        let count = self.terms.len();
-        for at in 0..count {
-            let end = self.end_of(cells, known, at);
-            add_implied(end, out)?;
-        }
-        Ok(())
-    }
-
     /// Tells all implied ends, where no variable comes twice, in an empty clause. Nothing more follows from a sum that is at
     /// most a number: its ends move the greatest sum alone.
     fn tell_ends(
@@ -185,36 +143,16 @@ impl SumRelation {
         ensures none { OnErr result (ends.new ≡ []) }
     {
         let _width = cells.width();
-        if let Err(error) = self.ends_in_turn(cells, known, ends) {
+        let sum = KnownSum {
+            sum: self,
+            total: known,
+        };
+        if let Err(error) = write_ends_in_turn(&sum, cells, ends) {
             ends.clear();
             return Err(error);
         }
         let empty = ends.literals().is_empty();
         Ok(batch_of(self.relation(), empty))
-    }
-
-    /// The implied end of the term at the place, where that has a variable.
-    fn end_of(&self, cells: &Cells, known: Interval, at: usize) -> Option<Literal>
-        requires at { at < length self.now.terms }
-        requires single { HasSingles self.now }
-        requires below { AllBelow (length cells.now.state.starts) (sum_vars self.now) }
-        requires sum { known ≡ total self.now.terms (arg_ends (hulls (cell_of cells.now.state))) }
-        requires fits { SumFits self.now (hulls (cell_of cells.now.state)) }
-        requires quiet { sum_refuted self.now (cell_of cells.now.state) ≡ false }
-        ensures { IsArgEnd (sum_refuted self.now) (cell_of cells.now.state) (term_at self.now.terms at).arg result }
-    {
-        let term = self.terms[at];
-        match term.arg {
-            Arg::Const(_) => None,
-            Arg::Var(var) => {
-                let slack = Slack {
-                    linear: self,
-                    coef: term.coef,
-                    total: known,
-                };
-                slack.first_end(cells, var)
-            }
-        }
     }
 
     /// Whether the relation is an equation in which the variable at this place occurs once, with the coefficient 1 or
@@ -325,7 +263,7 @@ impl Propagate for SumRelation {
             return next_of(self, cells);
         }
         let total = self.total(Reading::Values, &Hulls(cells));
-        self.first_in_turn(cells, total)
+        first_in_turn(&KnownSum { sum: self, total }, cells)
     }
 
     fn write_reason(

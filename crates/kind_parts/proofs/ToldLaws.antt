@@ -17,20 +17,17 @@ use Rattle.dom_cells.specs.Cell.{has_of}
 use Rattle.dom_cells.specs.declared.start.Start.{Start}
 use Rattle.dom_cells.proofs.BoxLaws.{cut_all-push, has-cut_at, has-cut_at_is}
 use Rattle.dom_cells.proofs.KeptLaws.{suits_end}
-use Rattle.kind_law.specs.Argument.{with_arg}
+use Rattle.kind_law.specs.Argument.{with_arg, distinct}
 use Rattle.kind_law.specs.Laws.{Each}
 use Rattle.kind_law.specs.Next.{IsEndOf}
 use Rattle.kind_law.specs.Visit.{cut_box}
 use Rattle.kind_law.proofs.EachLaws.{each_map}
 use Rattle.kind_law.proofs.VisitLaws.{append_nothing}
-use Rattle.kind_sum.specs.SumRelation.{SumRelation, sum_vars}
-use Rattle.kind_sum.specs.Slack.{HasSingles}
 use Rattle.kind_parts.specs.Walk.{IsArgEnd}
-use Rattle.kind_sum.specs.Sum.{vars_of}
-use Rattle.kind_sum.specs.Told.{IsTold}
-use Rattle.kind_sum.specs.declared.term.Term.{Term}
-use Rattle.kind_sum.proofs.SlackLaws.{single_vars, take_all_of, taken_more, vars_of-append}
+use Rattle.kind_parts.specs.Told.{IsTold}
+use Rattle.kind_parts.specs.Vars.{variables_of, are_distinct}
 use Rattle.kind_parts.proofs.VarsLaws.{append_none, each_append}
+use Rattle.kind_parts.proofs.WalkLaws.{all_taken, variables_next}
 
 -- what the literals leave with one more, those before left too
 left_before : (b : ℕ → Start) (v : ℕ) (ls : List Literal) (l : Literal) (x : ℤ) → is_end l.rel ≡ true → has_of (cut_box b (ls ++ l ∷ []) v) x ≡ true → has_of (cut_box b ls v) x ≡ true
@@ -90,14 +87,13 @@ arg_told refuted b vs (Const c) ls r h e =
     subst (λ (q : Option Literal). Each (IsTold refuted b (ls ++ option_to_list q)) (vs ++ [])) (sym e)
     (subst (λ (ks : List Literal). Each (IsTold refuted b ks) (vs ++ [])) (sym (append_nothing ls)) (subst (Each (IsTold refuted b ls)) (sym (append_none vs)) h))
 
-pub told_here : (refuted : (ℕ → Start) → Bool) (k : SumRelation) (b : ℕ → Start) (i : ℕ) (d : Term) (ls : List Literal) (r : Option Literal) → i < length k.terms
-    → Each (IsTold refuted b ls) (vars_of (take i k.terms)) → IsArgEnd refuted b (get_or k.terms i d).arg r
-    → Each (IsTold refuted b (ls ++ option_to_list r)) (vars_of (take (i + 1) k.terms))
-told_here refuted k b i d ls r lt h e =
-    subst (Each (IsTold refuted b (ls ++ option_to_list r))) (sym (ap vars_of (taken_more k.terms i d lt) ∙ vars_of-append (take i k.terms) (get_or k.terms i d ∷ [])))
-    (arg_told refuted b (vars_of (take i k.terms)) (get_or k.terms i d).arg ls r h e)
+-- what is told after the next argument
+pub told_here : (refuted : (ℕ → Start) → Bool) (xs : List Arg) (b : ℕ → Start) (i : ℕ) (d : Arg) (ls : List Literal) (r : Option Literal) → i < length xs
+    → Each (IsTold refuted b ls) (variables_of (take i xs)) → IsArgEnd refuted b (get_or xs i d) r
+    → Each (IsTold refuted b (ls ++ option_to_list r)) (variables_of (take (i + 1) xs))
+told_here refuted xs b i d ls r lt h e =
+    subst (Each (IsTold refuted b (ls ++ option_to_list r))) (sym (variables_next xs i d lt)) (arg_told refuted b (variables_of (take i xs)) (get_or xs i d) ls r h e)
 
-pub told_done : (refuted : (ℕ → Start) → Bool) (k : SumRelation) (b : ℕ → Start) (i : ℕ) (ls : List Literal) → length k.terms ≤ i → HasSingles k
-    → Each (IsTold refuted b ls) (vars_of (take i k.terms)) → Each (IsTold refuted b ls) (sum_vars k)
-told_done refuted k b i ls h single e =
-    subst (Each (IsTold refuted b ls)) (ap vars_of (take_all_of k.terms i h) ∙ sym (single_vars k single)) e
+pub told_done : (refuted : (ℕ → Start) → Bool) (xs : List Arg) (b : ℕ → Start) (i : ℕ) (ls : List Literal) → length xs ≤ i → are_distinct (variables_of xs) ≡ true
+    → Each (IsTold refuted b ls) (variables_of (take i xs)) → Each (IsTold refuted b ls) (distinct (variables_of xs))
+told_done refuted xs b i ls h single e = subst (Each (IsTold refuted b ls)) (all_taken xs i h single) e
