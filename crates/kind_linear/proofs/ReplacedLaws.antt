@@ -24,6 +24,7 @@ use Rattle.kind_sum.specs.Sum.{magnitude, total}
 use Rattle.kind_law.proofs.ArgumentLaws.{each_new_arg}
 use Rattle.kind_sum.specs.SumLaws.{scaled_in, smaller_size}
 use Rattle.kind_linear.specs.TruthNext.{IsTruthSlack}
+use Rattle.kind_linear.proofs.OpenLaws.{same_output}
 use Rattle.kind_sum.specs.declared.term.Term.{Term}
 use Rattle.kind_sum.proofs.SlackLaws.{kept_total, own_has, rest_ordered}
 
@@ -53,14 +54,7 @@ kept_size k c known b u l s e sane cut =
     (smaller_size (scaled_ends c (ends_of (kept b l u.0))) (scaled_ends c (ends_of (b u.0))) (scaled_in c (ends_of (kept b l u.0)) (ends_of (b u.0)) (ends_part b l u.0 e sane cut)))
     (own_size k c known b u s)
 
--- ---- how large replaced sums are
-
 -- ---- what a truth makes of it
-
--- the interval of another variable, or of a constant, is the same over the box with the bound
-other_same : (b : ℕ → Start) (l : Literal) (x : Arg) → ArgHas (λ w. w.0 ≡ l.var.0 → ⊥) x → arg_ends (hulls (kept b l)) x ≡ arg_ends (hulls b) x
-other_same b l (Var w) apart = ap ends_of (cut_at-other w.0 (b w.0) l apart)
-other_same b l (Const c) apart = refl
 
 -- the answer for the box with the bound
 pub truth_answer : (k : LinearReified) (c : ℤ) (known span : Ends) (b : ℕ → Start) (l : Literal) (old new t truth : Ends) → IsTruthSlack k c known span b l.var
@@ -70,7 +64,7 @@ truth_answer k c known span b l old new t truth s e f g h =
     let sum : t ≡ total k.sum.terms (arg_ends (hulls (kept b l))) =
     g ∙ ap (λ (x : Ends). replaced_ends known x new) e ∙ ap (replaced_ends known (scaled_ends c (ends_of (b l.var.0)))) f ∙ sym (kept_total k.sum c known b l.var l s.slack refl) in
     ap (λ (x : Ends). have_none x span) (h ∙ ap (λ (x : Ends). truth_over k.sum.relation x k.sum.bound) sum)
-    ∙ ap (have_none (truth_over k.sum.relation (total k.sum.terms (arg_ends (hulls (kept b l)))) k.sum.bound)) (s.output ∙ sym (other_same b l k.output s.other))
+    ∙ ap (have_none (truth_over k.sum.relation (total k.sum.terms (arg_ends (hulls (kept b l)))) k.sum.bound)) (s.output ∙ sym (same_output b l k.output s.other))
 
 -- ---- one question about a term's variable
 

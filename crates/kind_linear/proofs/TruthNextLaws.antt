@@ -7,18 +7,22 @@ use Rattle.dom_core.specs.declared.literal.Literal.{Literal}
 use Rattle.dom_core.specs.declared.var_id.VarId.{VarId}
 use Rattle.dom_core.proofs.TestLaws.{not_true}
 use Rattle.dom_cells.specs.declared.start.Start.{Start}
-use Rattle.kind_law.specs.Laws.{Each, AllBelow}
+use Rattle.dom_cells.specs.Box.{Box, cell_of}
+use Rattle.kind_law.specs.Laws.{Each, AllBelow, hulls}
 use Rattle.kind_law.specs.Next.{HasNoEnd, IsNext, IsReadable}
 use Rattle.kind_law.proofs.EachLaws.{each_at}
 use Rattle.kind_law.proofs.NextLaws.{next_found, not_some}
-use Rattle.kind_sum.specs.SumRelation.{sum_vars}
-use Rattle.kind_linear.specs.LinearReified.{LinearReified, reified_vars, reified_refuted}
+use Rattle.kind_sum.specs.SumRelation.{sum_vars, SumFits}
+use Rattle.kind_linear.specs.LinearReified.{LinearReified, reified_range, reified_vars, reified_refuted}
 use Rattle.kind_parts.specs.Walk.{IsArgEnd}
-use Rattle.kind_law.specs.Argument.{ArgHas, is_listed, is_new, with_arg, with_new_arg}
-use Rattle.kind_sum.specs.Sum.{vars_of}
-use Rattle.kind_linear.specs.TruthNext.{AreSingle, AreSpans, IsTruthSlack}
+use Rattle.kind_law.specs.Function.{have_none}
+use Rattle.kind_parts.specs.Relation.{truth_over}
+use Rattle.kind_law.specs.Argument.{ArgHas, arg_ends, is_listed, is_new, with_arg, with_new_arg}
+use Rattle.kind_sum.specs.Sum.{total, vars_of}
+use Rattle.kind_linear.specs.TruthNext.{AreSingle, AreSpans, IsTruthSlack, IsTruthStanding}
 use Rattle.kind_sum.specs.declared.term.Term.{Term}
-use Rattle.kind_sum.proofs.SlackLaws.{place_here, read_after, slack_here, taken_before, within_after}
+use Rattle.kind_sum.proofs.SlackLaws.{place_here, slack_here}
+use Rattle.kind_parts.proofs.WalkLaws.{read_after, taken_before, within_after}
 use Rattle.kind_parts.proofs.VarsLaws.{append_none, each_append, seen_apart}
 
 -- ---- lists with more variables at their end
@@ -98,3 +102,23 @@ truth_slack_here k i d u known span b s lt e spans = record {
   output = spans.output;
   other = new_other (sum_vars k.sum) k.output (length (vars_of (take i k.sum.terms))) u s.output (place_here k.sum i d u lt e s.sum);
 }
+
+-- ---- what is known of the intervals
+
+-- the truths and the output have nothing in common exactly where the box is refuted
+pub spans_answer : (k : LinearReified) (known span truth : Ends) (b : ℕ → Start) → AreSpans k known span b → truth ≡ truth_over k.sum.relation known k.sum.bound
+    → have_none truth span ≡ reified_refuted k b
+spans_answer k known span truth b s e =
+    ap (λ (t : Ends). have_none t span) (e ∙ ap (λ (t : Ends). truth_over k.sum.relation t k.sum.bound) s.sum)
+    ∙ ap (have_none (reified_range k (hulls b))) s.output
+
+-- the same truth in other words stands
+pub stands_as : (k j : LinearReified) (known span : Ends) (m : Box) → k ≡ j → AreSingle k → AllBelow (length m.starts) (reified_vars j) → AreSpans k known span (cell_of m)
+    → reified_refuted k (cell_of m) ≡ false → IsTruthStanding k known span m
+stands_as k j known span m e single below spans quiet =
+    record { single = single; below = subst (λ (i : LinearReified). AllBelow (length m.starts) (reified_vars i)) (sym e) below; spans = spans; quiet = quiet }
+
+pub spans_of : (k j : LinearReified) (known span : Ends) (m : Box) → k ≡ j → SumFits j.sum (hulls (cell_of m)) → known ≡ total k.sum.terms (arg_ends (hulls (cell_of m)))
+    → span ≡ arg_ends (hulls (cell_of m)) k.output → AreSpans k known span (cell_of m)
+spans_of k j known span m e fits sum output =
+    record { sum = sum; output = output; fits = subst (λ (i : LinearReified). SumFits i.sum (hulls (cell_of m))) (sym e) fits }

@@ -1,11 +1,15 @@
 -- Truths of sums of which the intervals are known: what the ends of their variables rest on.
-use Rattle.std.specs.Prelude.{◌≡◌, ◌&&◌, Bool, true, List, ℕ, ℤ, pos, int_le}
+use Rattle.std.specs.Prelude.{◌≡◌, ◌&&◌, ◌||◌, Bool, true, false, List, length, ℕ, ℤ, pos, int_le}
+use Rattle.std.specs.Ordering.{int_eq}
 use Rattle.dom_core.specs.Ends.{Ends}
+use Rattle.dom_core.specs.declared.arg.Arg.TheVariants.{Var}
+use Rattle.dom_cells.specs.Box.{Box, cell_of}
 use Rattle.dom_cells.specs.declared.start.Start.{Start}
 use Rattle.dom_core.specs.declared.var_id.VarId.{VarId}
-use Rattle.kind_law.specs.Laws.{hulls}
-use Rattle.kind_sum.specs.SumRelation.{sum_vars, SumFits}
-use Rattle.kind_linear.specs.LinearReified.{LinearReified, reified_vars}
+use Rattle.kind_law.specs.Laws.{AllBelow, hulls}
+use Rattle.kind_parts.specs.Relation.{truth_over}
+use Rattle.kind_sum.specs.SumRelation.{SumRelation, sum_vars, SumFits}
+use Rattle.kind_linear.specs.LinearReified.{LinearReified, reified_range, reified_refuted, reified_vars}
 use Rattle.kind_sum.specs.Slack.{HasSingles, IsSlack}
 use Rattle.kind_law.specs.Argument.{ArgHas, arg_ends, is_new}
 use Rattle.kind_sum.specs.Sum.{total}
@@ -35,3 +39,24 @@ pub record IsTruthSlack (k : LinearReified) (c : ℤ) (known span : Ends) (b : �
 -- the output may still be 0 and may still be 1, as far as its ends tell
 abbrev pub is_open : Ends → Bool
 is_open e = int_le e.lo (pos 0) && int_le (pos 1) e.hi
+
+-- the truth is one integer alone
+abbrev pub is_known : Ends → Bool
+is_known e = int_eq e.lo e.hi
+
+-- no bound on a variable of the sum refutes the truth: the output is open, or the truth is known
+abbrev pub is_idle : SumRelation → Ends → Ends → Bool
+is_idle k known span = is_open span || is_known (truth_over k.relation known k.bound)
+
+-- the intervals over a box that the truth doesn't give up are known, and no variable comes twice
+pub record IsTruthStanding (k : LinearReified) (known span : Ends) (m : Box) : Type 0 where
+  pub single : AreSingle k
+  pub below : AllBelow (length m.starts) (reified_vars k)
+  pub spans : AreSpans k known span (cell_of m)
+  pub quiet : reified_refuted k (cell_of m) ≡ false
+
+-- the truths over the box are known, and the variable is the output, which is none of the sum's
+pub record IsTruthOf (k : LinearReified) (truth : Ends) (b : ℕ → Start) (u : VarId) : Type 0 where
+  pub range : truth ≡ reified_range k (hulls b)
+  pub output : k.output ≡ Var u
+  pub other : is_new (sum_vars k.sum) k.output ≡ true

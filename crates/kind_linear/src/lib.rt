@@ -6,6 +6,7 @@ mod argued;
 mod implied_tests;
 mod linear;
 mod output;
+mod output_probe;
 #[cfg(test)]
 mod reason_tests;
 mod reified;

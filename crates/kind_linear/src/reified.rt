@@ -9,16 +9,15 @@ ghost use Rattle.kind_sum.specs.Sum.{terms_of};
 ghost use Rattle.kind_linear.specs.TruthNext.{AreSingle};
 
 use crate::argued::{verdict_of, write_truth_reason};
-use crate::truth_next::{TruthSpans, next_of_terms};
+use crate::truth_next::TruthSpans;
 use dom_cells::{Cells, Hulls, Point, Region};
 use dom_core::{
     After, Arg, Assignment, Before, Changes, Clause, Interval, Intervals, Literal, Movement,
     Relation, VarId, View,
 };
 use kind_law::{
-    Define, Kind, Propagate, Reading, Scratch, Visited, add_implied, are_apart, are_same,
-    are_still, change_by, difference_of, end_of_var, is_function_kept, movement_of, next_of,
-    reason_of, span, var_of, visit_of,
+    Define, Kind, Propagate, Reading, Scratch, Visited, are_apart, are_same, are_still, change_by,
+    difference_of, is_function_kept, movement_of, next_of, reason_of, span, var_of, visit_of,
 };
 use kind_parts::{bound_row, is_new, with_output};
 use kind_sum::SumRelation;
@@ -139,86 +138,6 @@ impl LinearReified {
     }
 }
 
-impl LinearReified {
-    ghost use Rattle.std.specs.Prelude.{◌≡◌, [], false, length, IfOk, OnOk, OnErr};
-    ghost use Rattle.kind_law.specs.Visit.{AreEnds, IsVisited};
-    ghost use Rattle.dom_cells.specs.Box.{cell_of};
-    ghost use Rattle.kind_law.specs.Laws.{AllBelow, hulls};
-    ghost use Rattle.kind_law.specs.Reason.{IsCause, IsRead, IsReason, asked};
-    ghost use Rattle.kind_linear.specs.Verdict.{IsVerdict};
-    ghost use Rattle.kind_sum.specs.SumRelation.{SumFits};
-    ghost use Rattle.kind_linear.specs.LinearReified.{reified_refuted, reified_vars};
-    ghost use Rattle.kind_parts.specs.Walk.{IsArgEnd};
-    ghost use Rattle.kind_law.specs.Argument.{arg_ends};
-    ghost use Rattle.kind_sum.specs.Sum.{total};
-    ghost use Rattle.kind_linear.specs.TruthNext.{AreSingle, AreSpans};
-
-    /// The implied end of the output, where that is a variable.
-    fn output_end(&self, cells: &Cells) -> Option<Literal>
-        requires single { AreSingle self.now }
-        requires below { AllBelow (length cells.now.state.starts) (reified_vars self.now) }
-        requires fits { SumFits self.now.sum (hulls (cell_of cells.now.state)) }
-        ensures { IsArgEnd (reified_refuted self.now) (cell_of cells.now.state) self.now.output result }
-    {
-        match self.output {
-            Arg::Const(_) => None,
-            Arg::Var(var) => end_of_var(self, cells, var),
-        }
-    }
-
-    /// Tells all implied ends in an empty clause, the output's last.
-    fn tell_ends(
-        &self,
-        cells: &Cells,
-        known: Interval,
-        span: Interval,
-        ends: &mut Clause,
-    ) -> Result<Visited, AllocError>
-        requires single { AreSingle self.now }
-        requires below { AllBelow (length cells.now.state.starts) (reified_vars self.now) }
-        requires spans { AreSpans self.now known span (cell_of cells.now.state) }
-        requires quiet { reified_refuted self.now (cell_of cells.now.state) ≡ false }
-        requires empty { ends.old ≡ [] }
-        ensures visited { IfOk result (λ v. IsVisited (reified_refuted self.now) (reified_vars self.now) (cell_of cells.now.state) (length cells.now.state.starts) v ends.new) }
-        ensures none { OnErr result (ends.new ≡ []) }
-    {
-        if let Err(error) = self.write_ends(cells, known, span, ends) {
-            ends.clear();
-            return Err(error);
-        }
-        Ok(Visited::Ends {
-            more: !ends.literals().is_empty(),
-        })
-    }
-
-    /// Writes for each variable the end that is implied, the lower one first, that of the output last.
-    fn write_ends(
-        &self,
-        cells: &Cells,
-        known: Interval,
-        span: Interval,
-        ends: &mut Clause,
-    ) -> Result<(), AllocError>
-        requires single { AreSingle self.now }
-        requires below { AllBelow (length cells.now.state.starts) (reified_vars self.now) }
-        requires spans { AreSpans self.now known span (cell_of cells.now.state) }
-        requires empty { ends.old ≡ [] }
-        ensures { OnOk result (AreEnds (reified_refuted self.now) (reified_vars self.now) (cell_of cells.now.state) (length cells.now.state.starts) ends.new) }
-    {
-        let _width = cells.width();
-        let spans = TruthSpans {
-            linear: &self.linear,
-            output: self.output,
-            total: known,
-            span,
-        };
-        spans.write_ends(cells, ends)?;
-        let end = self.output_end(cells);
-        add_implied(end, ends)?;
-        Ok(())
-    }
-}
-
 impl Kind for LinearReified {
     ghost use Rattle.std.specs.Prelude.{false};
     ghost use Rattle.kind_sum.specs.SumRelation.{sum_vars, sum_size, SumFits};
@@ -304,23 +223,34 @@ impl Propagate for LinearReified {
         }
         ends.clear();
         let _width = cells.width();
-        let total = self.linear.total(Reading::Values, &Hulls(cells));
-        let span = span(self.output, Reading::Values, &Hulls(cells));
-        if are_apart(self.linear.truth(total), span) {
+        let spans = TruthSpans {
+            linear: &self.linear,
+            output: self.output,
+            total: self.linear.total(Reading::Values, &Hulls(cells)),
+            span: span(self.output, Reading::Values, &Hulls(cells)),
+        };
+        if are_apart(spans.truth(), spans.span) {
             return Ok(Visited::Refuted);
         }
-        self.tell_ends(cells, total, span, ends)
+        spans.tell_ends(cells, ends)
     }
 
     fn next(&self, cells: &Cells) -> Option<Literal> {
         if !self.single {
             return next_of(self, cells);
         }
-        let end = next_of_terms(&self.linear, self.output, cells);
+        let _width = cells.width();
+        let spans = TruthSpans {
+            linear: &self.linear,
+            output: self.output,
+            total: self.linear.total(Reading::Values, &Hulls(cells)),
+            span: span(self.output, Reading::Values, &Hulls(cells)),
+        };
+        let end = spans.term_end(cells);
         if end.is_some() {
             return end;
         }
-        self.output_end(cells)
+        spans.output_end(cells)
     }
 
     fn write_reason(

@@ -1,20 +1,17 @@
-//! The first end that a truth implies for the variables of its sum.
-ghost use Rattle.std.specs.Prelude.{◌≡◌, ◌<◌, length};
-ghost use Rattle.dom_cells.specs.Box.{cell_of};
-ghost use Rattle.kind_law.specs.Laws.{AllBelow, hulls};
-ghost use Rattle.kind_law.specs.Next.{IsNext};
-ghost use Rattle.kind_sum.specs.SumRelation.{sum_vars, SumFits};
-ghost use Rattle.kind_linear.specs.LinearReified.{reified_refuted, reified_vars};
-ghost use Rattle.kind_linear.specs.TruthNext.{AreSingle, is_open};
+//! Truths of sums of which the intervals are known: the ends that they imply.
+ghost use Rattle.std.specs.Prelude.{◌≡◌};
+ghost use Rattle.kind_linear.specs.TruthNext.{is_known, is_open};
 
+use crate::output_probe::OutputProbe;
 use crate::truth_probe::TruthProbe;
-use dom_cells::{Cells, Hulls};
+use dom_cells::Cells;
 use dom_core::{Arg, Clause, Interval, Literal};
-use kind_law::{Reading, add_implied, first_end, span};
+use kind_law::{Visited, add_implied, first_end};
+use kind_parts::{Places, first_in_turn, write_ends_in_turn};
 use kind_sum::SumRelation;
 use std::alloc::AllocError;
 
-/// A truth, with the intervals of its sum and of its output over a box.
+/// A truth that stands, with the intervals of its sum and of its output over a box.
 #[derive(Drop)]
 pub(crate) struct TruthSpans<'a> {
     pub(crate) linear: &'a SumRelation,
@@ -23,75 +20,24 @@ pub(crate) struct TruthSpans<'a> {
     pub(crate) span: Interval,
 }
 
-impl TruthSpans<'_> {
-    ghost use Rattle.std.specs.Prelude.{◌≡◌, ◌<◌, [], length, OnOk};
-    ghost use Rattle.dom_cells.specs.Box.{cell_of};
-    ghost use Rattle.kind_law.specs.Laws.{AllBelow};
-    ghost use Rattle.kind_law.specs.Visit.{AreEnds};
-    ghost use Rattle.kind_law.specs.Next.{IsNext};
-    ghost use Rattle.kind_sum.specs.SumRelation.{sum_vars};
-    ghost use Rattle.kind_linear.specs.LinearReified.{reified_refuted, reified_vars};
-    ghost use Rattle.kind_sum.specs.Slack.{term_at};
-    ghost use Rattle.kind_parts.specs.Walk.{IsArgEnd};
-    ghost use Rattle.kind_linear.specs.TruthNext.{AreSingle, AreSpans};
+/// The terms of the sum. The output isn't one of them.
+impl Places for TruthSpans<'_> {
+    ghost use Rattle.kind_sum.specs.Sum.{args_of};
+    ghost use Rattle.kind_linear.specs.LinearReified.{reified_refuted};
+    ghost use Rattle.kind_linear.specs.TruthNext.{IsTruthStanding};
 
-    /// The first implied end, the terms being taken in turn.
-    fn first_in_turn(&self, cells: &Cells) -> Option<Literal>
-        requires single { AreSingle (record { sum = self.now.linear.now; output = self.now.output }) }
-        requires below { AllBelow (length cells.now.state.starts) (reified_vars (record { sum = self.now.linear.now; output = self.now.output })) }
-        requires spans { AreSpans (record { sum = self.now.linear.now; output = self.now.output }) self.now.total self.now.span (cell_of cells.now.state) }
-        ensures { IsNext (reified_refuted (record { sum = self.now.linear.now; output = self.now.output })) (sum_vars self.now.linear.now) (cell_of cells.now.state) result }
-    {
-        for at in 0..self.linear.terms().len() {
-            let end = self.end_of(cells, at);
-            if end.is_some() {
-                return end;
-            }
-        }
-        None
+    ghost args = { λ s. args_of s.linear.now.terms };
+
+    ghost refuted = { λ s. reified_refuted (record { sum = s.linear.now; output = s.output }) };
+
+    ghost answers = { λ s m. IsTruthStanding (record { sum = s.linear.now; output = s.output }) s.total s.span m };
+
+    fn len(&self) -> usize {
+        self.linear.terms().len()
     }
 
-    /// Writes for each variable of the sum the end that is implied, the lower one first. Where the output is open there is
-    /// none, and no term is asked.
-    pub(crate) fn write_ends(&self, cells: &Cells, out: &mut Clause) -> Result<(), AllocError>
-        requires single { AreSingle (record { sum = self.now.linear.now; output = self.now.output }) }
-        requires below { AllBelow (length cells.now.state.starts) (reified_vars (record { sum = self.now.linear.now; output = self.now.output })) }
-        requires spans { AreSpans (record { sum = self.now.linear.now; output = self.now.output }) self.now.total self.now.span (cell_of cells.now.state) }
-        requires empty { out.old ≡ [] }
-        ensures { OnOk result (AreEnds (reified_refuted (record { sum = self.now.linear.now; output = self.now.output })) (sum_vars self.now.linear.now) (cell_of cells.now.state) (length cells.now.state.starts) out.new) }
-    {
-        if is_open(self.span) {
-            return Ok(());
-        }
-        self.write_in_turn(cells, out)
-    }
-
-    /// Writes for each variable of the sum the end that is implied, the lower one first, the terms being taken in turn.
-    fn write_in_turn(&self, cells: &Cells, out: &mut Clause) -> Result<(), AllocError>
-        requires single { AreSingle (record { sum = self.now.linear.now; output = self.now.output }) }
-        requires below { AllBelow (length cells.now.state.starts) (reified_vars (record { sum = self.now.linear.now; output = self.now.output })) }
-        requires spans { AreSpans (record { sum = self.now.linear.now; output = self.now.output }) self.now.total self.now.span (cell_of cells.now.state) }
-        requires empty { out.old ≡ [] }
-        ensures { OnOk result (AreEnds (reified_refuted (record { sum = self.now.linear.now; output = self.now.output })) (sum_vars self.now.linear.now) (cell_of cells.now.state) (length cells.now.state.starts) out.new) }
-    {
-        let _width = cells.width();
-        let count = self.linear.terms().len();
-        for at in 0..count {
-            let end = self.end_of(cells, at);
-            add_implied(end, out)?;
-        }
-        Ok(())
-    }
-
-    /// The implied end of the term at the place, where that has a variable.
-    fn end_of(&self, cells: &Cells, at: usize) -> Option<Literal>
-        requires at { at < length self.now.linear.now.terms }
-        requires single { AreSingle (record { sum = self.now.linear.now; output = self.now.output }) }
-        requires below { AllBelow (length cells.now.state.starts) (reified_vars (record { sum = self.now.linear.now; output = self.now.output })) }
-        requires spans { AreSpans (record { sum = self.now.linear.now; output = self.now.output }) self.now.total self.now.span (cell_of cells.now.state) }
-        ensures { IsArgEnd (reified_refuted (record { sum = self.now.linear.now; output = self.now.output })) (cell_of cells.now.state) (term_at self.now.linear.now.terms at).arg result }
-    {
-        let term = self.linear.terms()[at];
+    fn end_at(&self, cells: &Cells, place: usize) -> Option<Literal> {
+        let term = self.linear.terms()[place];
         match term.arg {
             Arg::Const(_) => None,
             Arg::Var(var) => {
@@ -108,26 +54,105 @@ impl TruthSpans<'_> {
     }
 }
 
-/// The first implied end of the sum's variables, none of which comes twice or is the output. Where the output is open there
-/// is none, and no sum is made.
-pub(crate) fn next_of_terms(linear: &SumRelation, output: Arg, cells: &Cells) -> Option<Literal>
-    requires single { AreSingle (record { sum = linear.now; output = output }) }
-    requires below { AllBelow (length cells.now.state.starts) (reified_vars (record { sum = linear.now; output = output })) }
-    requires fits { SumFits linear.now (hulls (cell_of cells.now.state)) }
-    ensures { IsNext (reified_refuted (record { sum = linear.now; output = output })) (sum_vars linear.now) (cell_of cells.now.state) result }
-{
-    let _width = cells.width();
-    let span = span(output, Reading::Values, &Hulls(cells));
-    if is_open(span) {
-        return None;
+impl TruthSpans<'_> {
+    ghost use Rattle.std.specs.Prelude.{◌≡◌, [], length, IfOk, OnErr, OnOk};
+    ghost use Rattle.dom_core.specs.Ends.{HasBits};
+    ghost use Rattle.dom_cells.specs.Box.{cell_of};
+    ghost use Rattle.kind_law.specs.Next.{IsNext};
+    ghost use Rattle.kind_law.specs.Visit.{AreEnds, IsVisited};
+    ghost use Rattle.kind_parts.specs.Relation.{truth_over};
+    ghost use Rattle.kind_parts.specs.Walk.{IsArgEnd};
+    ghost use Rattle.kind_sum.specs.SumRelation.{sum_vars};
+    ghost use Rattle.kind_linear.specs.LinearReified.{reified_refuted, reified_vars};
+    ghost use Rattle.kind_linear.specs.TruthNext.{IsTruthStanding, is_idle};
+
+    /// The truths of the sum.
+    pub(crate) fn truth(&self) -> Interval
+        ensures truth { result ≡ truth_over self.now.linear.now.relation self.now.total self.now.linear.now.bound }
+        ensures bits { HasBits 1 result }
+    {
+        self.linear.truth(self.total)
     }
-    let spans = TruthSpans {
-        linear,
-        output,
-        total: linear.total(Reading::Values, &Hulls(cells)),
-        span,
-    };
-    spans.first_in_turn(cells)
+
+    /// Whether no bound on a variable of the sum can refute the truth: the output is open, or the truth is known.
+    fn is_idle(&self) -> bool
+        ensures { result ≡ is_idle self.now.linear.now self.now.total self.now.span }
+    {
+        is_open(self.span) || is_known(self.truth())
+    }
+
+    /// The first implied end of the sum's variables.
+    pub(crate) fn term_end(&self, cells: &Cells) -> Option<Literal>
+        requires { IsTruthStanding (record { sum = self.now.linear.now; output = self.now.output }) self.now.total self.now.span cells.now.state }
+        ensures { IsNext (reified_refuted (record { sum = self.now.linear.now; output = self.now.output })) (sum_vars self.now.linear.now) (cell_of cells.now.state) result }
+    {
+        let _width = cells.width();
+        if self.is_idle() {
+            return None;
+        }
+        first_in_turn(self, cells)
+    }
+
+    /// The implied end of the output, where that is a variable. No sum is made for it.
+    pub(crate) fn output_end(&self, cells: &Cells) -> Option<Literal>
+        requires { IsTruthStanding (record { sum = self.now.linear.now; output = self.now.output }) self.now.total self.now.span cells.now.state }
+        ensures { IsArgEnd (reified_refuted (record { sum = self.now.linear.now; output = self.now.output })) (cell_of cells.now.state) self.now.output result }
+    {
+        match self.output {
+            Arg::Const(_) => None,
+            Arg::Var(var) => {
+                let probe = OutputProbe {
+                    linear: self.linear,
+                    output: var,
+                    truth: self.truth(),
+                };
+                first_end(&probe, cells, var)
+            }
+        }
+    }
+
+    /// Tells all implied ends in an empty clause, the output's last.
+    pub(crate) fn tell_ends(&self, cells: &Cells, ends: &mut Clause) -> Result<Visited, AllocError>
+        requires standing { IsTruthStanding (record { sum = self.now.linear.now; output = self.now.output }) self.now.total self.now.span cells.now.state }
+        requires empty { ends.old ≡ [] }
+        ensures visited { IfOk result (λ v. IsVisited (reified_refuted (record { sum = self.now.linear.now; output = self.now.output })) (reified_vars (record { sum = self.now.linear.now; output = self.now.output })) (cell_of cells.now.state) (length cells.now.state.starts) v ends.new) }
+        ensures none { OnErr result (ends.new ≡ []) }
+    {
+        if let Err(error) = self.write_ends(cells, ends) {
+            ends.clear();
+            return Err(error);
+        }
+        Ok(Visited::Ends {
+            more: !ends.literals().is_empty(),
+        })
+    }
+
+    /// Writes for each variable the end that is implied, the lower one first, that of the output last.
+    fn write_ends(&self, cells: &Cells, ends: &mut Clause) -> Result<(), AllocError>
+        requires standing { IsTruthStanding (record { sum = self.now.linear.now; output = self.now.output }) self.now.total self.now.span cells.now.state }
+        requires empty { ends.old ≡ [] }
+        ensures { OnOk result (AreEnds (reified_refuted (record { sum = self.now.linear.now; output = self.now.output })) (reified_vars (record { sum = self.now.linear.now; output = self.now.output })) (cell_of cells.now.state) (length cells.now.state.starts) ends.new) }
+    {
+        let _width = cells.width();
+        self.write_term_ends(cells, ends)?;
+        let end = self.output_end(cells);
+        add_implied(end, ends)?;
+        Ok(())
+    }
+
+    /// Writes for each variable of the sum the end that is implied, the lower one first. No term is asked where none has
+    /// one.
+    fn write_term_ends(&self, cells: &Cells, out: &mut Clause) -> Result<(), AllocError>
+        requires standing { IsTruthStanding (record { sum = self.now.linear.now; output = self.now.output }) self.now.total self.now.span cells.now.state }
+        requires empty { out.old ≡ [] }
+        ensures { OnOk result (AreEnds (reified_refuted (record { sum = self.now.linear.now; output = self.now.output })) (sum_vars self.now.linear.now) (cell_of cells.now.state) (length cells.now.state.starts) out.new) }
+    {
+        let _width = cells.width();
+        if self.is_idle() {
+            return Ok(());
+        }
+        write_ends_in_turn(self, cells, out)
+    }
 }
 
 /// Whether the output may still be 0 and may still be 1, as far as its ends tell.
@@ -135,4 +160,11 @@ fn is_open(output: Interval) -> bool
     ensures { result ≡ is_open output }
 {
     output.lo() <= 0 && 1 <= output.hi()
+}
+
+/// Whether there is one truth alone.
+fn is_known(truth: Interval) -> bool
+    ensures { result ≡ is_known truth }
+{
+    truth.lo() == truth.hi()
 }

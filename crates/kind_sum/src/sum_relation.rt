@@ -15,9 +15,7 @@ use dom_cells::{Cells, Hulls, Point, Region};
 use dom_core::{
     After, Arg, Assignment, Changes, Clause, Interval, Intervals, Literal, Relation, VarId, View,
 };
-use kind_law::{
-    Kind, Propagate, Reading, Scratch, Visited, next_of, reason_of, visit_of,
-};
+use kind_law::{Kind, Propagate, Reading, Scratch, Visited, next_of, reason_of, visit_of};
 use kind_parts::{
     first_in_turn, is_certain, is_difference, is_equality, is_met, is_only, is_refuted, truth_over,
     write_ends_in_turn,
