@@ -1,7 +1,6 @@
 mod ArguedLaws
 mod KeepLaws
 mod OpenLaws
-mod PairLaws
 mod ReplacedLaws
 mod SolvedLaws
 mod TruthNextLaws

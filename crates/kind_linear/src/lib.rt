@@ -2,8 +2,6 @@
 #![tactic(auto)]
 
 mod argued;
-#[cfg(test)]
-mod implied_tests;
 mod linear;
 mod output;
 mod output_probe;

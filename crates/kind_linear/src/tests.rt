@@ -20,68 +20,6 @@ const Y: VarId = VarId(1);
 const Z: VarId = VarId(2);
 
 #[test]
-fn a_sum_is_compared_with_its_bound(rt: HostRuntime) -> Result<(), Fail> {
-    let args = [Arg::Var(X), Arg::Var(Y), Arg::Const(1)];
-    let coefs = [2, 3, -1];
-    let mut a = Assignment::zeros(rt.alloc(), 2)?;
-    a.set(X, 1);
-    a.set(Y, 2);
-    for (relation, bound, met) in [
-        (Relation::AtMost, 7, true),
-        (Relation::AtMost, 6, false),
-        (Relation::Equal, 7, true),
-        (Relation::Equal, 8, false),
-        (Relation::Differ, 7, false),
-        (Relation::Differ, 8, true),
-    ] {
-        let kind = Linear::new(rt.alloc(), &coefs, &args, relation, bound)?;
-        assert_eq!(rt; kind.vars(), [X, Y].as_slice());
-        assert!(rt; !kind.is_inside(X));
-        assert_eq!(rt; kind.holds(&a), met, "{relation:?} {bound}");
-        shared(&kind);
-    }
-    Ok(())
-}
-
-#[test]
-fn a_view_that_lets_the_sum_fall_keeps_a_bound_alone(rt: HostRuntime) -> Result<(), Fail> {
-    let args = [Arg::Var(X), Arg::Var(Y), Arg::Const(1)];
-    let coefs = [2, 3, -1];
-    for (relation, kept) in [
-        (Relation::AtMost, true),
-        (Relation::Equal, false),
-        (Relation::Differ, false),
-    ] {
-        let mut view = View::for_vars(rt.alloc(), 2)?;
-        let kind = Linear::new(rt.alloc(), &coefs, &args, relation, -3)?;
-        assert!(rt; are_still(kind.vars(), &view));
-        assert!(rt; kind.keeps(&view), "{relation:?}");
-        view.set(
-            X,
-            Interval::new(0, 1),
-            Interval::new(-1, 0),
-            Interval::new(-1, -1),
-        );
-        assert!(rt; !are_still(kind.vars(), &view));
-        assert_eq!(rt; kind.keeps(&view), kept, "{relation:?}");
-    }
-    Ok(())
-}
-
-#[test]
-fn a_change_is_what_the_row_and_the_ranges_allow(rt: HostRuntime) -> Result<(), Fail> {
-    let row = Interval::new(-1, 4);
-    let before = Interval::new(0, 2);
-    let after = Interval::new(1, 5);
-    assert_eq!(rt; change_by(row, before, after), Interval::new(-1, 4));
-    assert_eq!(rt;
-        change_by(Interval::new(9, 9), before, after),
-        Interval::new(-1, 5)
-    );
-    Ok(())
-}
-
-#[test]
 fn a_bound_implies_an_end_of_a_variable_that_comes_once_or_twice(
     rt: HostRuntime,
 ) -> Result<(), Fail> {

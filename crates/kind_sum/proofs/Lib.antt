@@ -1,6 +1,7 @@
 pub mod EndLaws
 pub mod ExplainedLaws
 pub mod KeepLaws
+pub mod PairLaws
 pub mod QuietLaws
 pub mod ReachLaws
 pub mod RunLaws

@@ -8,6 +8,8 @@ mod slack;
 mod sum_relation;
 mod term;
 mod terms;
+#[cfg(test)]
+mod tests;
 mod total;
 mod width;
 

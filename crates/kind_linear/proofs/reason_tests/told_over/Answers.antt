@@ -4,7 +4,7 @@ use Rattle.dom_cells.specs.Box.{cell_of}
 use Rattle.dom_core.specs.declared.arg.Arg.TheVariants.{Var}
 use Rattle.kind_law.specs.Laws.{hulls}
 use Rattle.kind_sum.specs.SumRelation.{SumRelation}
-use Rattle.kind_linear.proofs.PairLaws.{pair_fits, pair_terms}
+use Rattle.kind_sum.proofs.PairLaws.{pair_fits, pair_terms}
 use Rattle.kind_linear.proofs.reason_tests.told_over.Goals as goal
 
 pub why-requires-clause-fits : goal.why-requires-clause-fits

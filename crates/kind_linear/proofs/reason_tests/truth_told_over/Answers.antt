@@ -3,7 +3,7 @@ use Rattle.std.proofs.lemmas.Int.{ints}
 use Rattle.dom_cells.specs.Box.{cell_of}
 use Rattle.dom_core.specs.declared.arg.Arg.TheVariants.{Var}
 use Rattle.kind_law.specs.Laws.{hulls}
-use Rattle.kind_linear.proofs.PairLaws.{pair_fits, pair_terms}
+use Rattle.kind_sum.proofs.PairLaws.{pair_fits, pair_terms}
 use Rattle.kind_linear.specs.LinearReified.{LinearReified}
 use Rattle.kind_linear.proofs.reason_tests.truth_told_over.Goals as goal
 

@@ -4,11 +4,11 @@ use Rattle.dom_cells.specs.Box.{cell_of}
 use Rattle.dom_core.specs.declared.arg.Arg.TheVariants.{Var}
 use Rattle.kind_law.specs.Laws.{hulls}
 use Rattle.kind_sum.specs.SumRelation.{SumRelation}
-use Rattle.kind_linear.proofs.PairLaws.{pair_fits, pair_terms}
-use Rattle.kind_linear.proofs.implied_tests.implied.Goals as goal
+use Rattle.kind_sum.proofs.PairLaws.{pair_fits, pair_terms}
+use Rattle.kind_sum.proofs.tests.implied.Goals as goal
 
-pub next_of_open-requires-clause-fits : goal.next_of_open-requires-clause-fits
-next_of_open-requires-clause-fits c =
+pub told-requires-clause-fits : goal.told-requires-clause-fits
+told-requires-clause-fits c =
     let a_fits : FitsSigned w8 c.args.a = search rules in
     let b_fits : FitsSigned w8 c.args.b = search rules in
     let x_low : FitsSigned w64 c.lo.result = search rules in
