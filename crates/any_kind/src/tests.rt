@@ -222,6 +222,7 @@ fn an_equation_defines_its_output(rt: HostRuntime) -> Result<(), Fail> {
     assert_eq!(rt; kind.value(&a), 9);
     assert!(rt; !kind.holds(&a));
     let mut view = View::for_vars(rt.alloc(), 3)?;
+    assert_eq!(rt; kind.change(&view), Interval::new(0, 0));
     let (bit, two) = (Interval::new(0, 1), Interval::new(0, 2));
     view.set(X, bit, Interval::new(1, 1), bit);
     view.set(Y, two, two, Interval::new(-1, 0));
@@ -247,11 +248,20 @@ fn a_truth_defines_its_output(rt: HostRuntime) -> Result<(), Fail> {
     a.set(Y, 1);
     assert_eq!(rt; kind.value(&a), 0);
     let mut view = View::for_vars(rt.alloc(), 3)?;
-    let (bit, two) = (Interval::new(0, 1), Interval::new(0, 2));
+    assert_eq!(rt; kind.change(&view), Interval::new(0, 0));
+    let (bit, two, one) = (
+        Interval::new(0, 1),
+        Interval::new(0, 2),
+        Interval::new(1, 1),
+    );
     view.set(X, two, bit, Interval::new(-1, 0));
+    assert_eq!(rt; kind.range(&Before(&view)), one);
     view.set(Y, bit, bit, Interval::new(0, 0));
     assert_eq!(rt; kind.range(&Before(&view)), bit);
     assert_eq!(rt; kind.change(&view), bit);
+    assert!(rt; !kind.keeps(&view), "a truth that stays 0 may rise");
+    view.set(Z, one, one, Interval::new(0, 0));
+    assert!(rt; kind.keeps(&view), "a truth that stays 1 doesn't fall");
     Ok(())
 }
 

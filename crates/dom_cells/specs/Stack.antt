@@ -9,9 +9,11 @@ use Rattle.dom_cells.specs.declared.cell.Cell.{Cell}
 use Rattle.dom_cells.specs.declared.cells.Change.{Change}
 use Rattle.dom_cells.specs.declared.cells.Cells.TheInside.{Inside}
 
+-- the values with which a cell began
 abbrev pub start_of : Cell → Start
 start_of c = c.start
 
+-- the literal by which a change was made
 abbrev pub literal_of : Change → Literal
 literal_of c = c.literal
 

@@ -148,34 +148,21 @@ fn truth_told(
 }
 
 #[test]
-fn a_reason_names_lower_ends_of_what_is_added_alone(rt: HostRuntime) -> Result<(), Fail> {
+fn a_reason_tells_the_ends_that_the_sum_needs_but_for_its_slack(
+    rt: HostRuntime,
+) -> Result<(), Fail> {
     let out = told(&rt, 1, 1, Relation::AtMost, 5, (4, 8), (2, 7))?;
     assert_eq!(rt; out.literals(), [at_most(X, 3), at_most(Y, 1)].as_slice());
     let out = told(&rt, 1, -1, Relation::AtMost, -5, (1, 8), (2, 5))?;
     assert_eq!(rt; out.literals(), [at_most(X, 0), at_least(Y, 6)].as_slice());
-    Ok(())
-}
-
-#[test]
-fn a_reason_leaves_out_what_the_slack_makes_up_for(rt: HostRuntime) -> Result<(), Fail> {
     let out = told(&rt, 1, 3, Relation::AtMost, 5, (1, 9), (2, 9))?;
     assert_eq!(rt; out.literals(), [at_most(Y, 1)].as_slice());
     let out = told(&rt, 1, -2, Relation::Equal, 9, (0, 8), (1, 9))?;
     assert_eq!(rt; out.literals(), [at_most(Y, 0)].as_slice());
-    Ok(())
-}
-
-#[test]
-fn an_implied_end_is_told_by_the_other_variable(rt: HostRuntime) -> Result<(), Fail> {
     let out = told(&rt, 2, 3, Relation::AtMost, 20, (0, 9), (4, 8))?;
     assert_eq!(rt; out.literals(), [at_most(Y, 3), at_most(X, 4)].as_slice());
     let out = told(&rt, 1, 1, Relation::Equal, 12, (0, 9), (0, 7))?;
     assert_eq!(rt; out.literals(), [at_least(Y, 8), at_least(X, 5)].as_slice());
-    Ok(())
-}
-
-#[test]
-fn a_difference_is_told_by_both_ends(rt: HostRuntime) -> Result<(), Fail> {
     let out = told(&rt, 1, 1, Relation::Differ, 5, (3, 3), (2, 2))?;
     let all = [at_most(X, 2), at_least(X, 4), at_most(Y, 1), at_least(Y, 3)];
     assert_eq!(rt; out.literals(), all.as_slice());

@@ -1,5 +1,4 @@
-ghost use Rattle.std.specs.Prelude.{◌≡◌, ◌<◌, IfOk, OnOk, length, false, true, pos, negsuc, [], ◌∷◌, ◌++◌};
-ghost use Rattle.dom_core.specs.declared.arg.Arg.{Arg};
+ghost use Rattle.std.specs.Prelude.{◌≡◌, ◌<◌, OnOk, length, false, [], ◌∷◌, ◌++◌};
 ghost use Rattle.dom_cells.specs.Box.{cell_of, start_at};
 ghost use Rattle.dom_cells.specs.Cell.{Suits};
 ghost use Rattle.kind_law.specs.Laws.{AllBelow, hulls};
@@ -7,8 +6,8 @@ ghost use Rattle.kind_sum.specs.SumRelation.{sum_vars, sum_refuted, SumFits};
 
 use super::*;
 use dom_cells::{Cells, Narrowed, Start};
-use dom_core::{Arg, Assignment, Before, Clause, Interval, Literal, Rel, Relation, VarId, View};
-use kind_law::{Define, Kind, Propagate, are_still, change_by};
+use dom_core::{Arg, Assignment, Clause, Literal, Rel, Relation, VarId};
+use kind_law::{Kind, Propagate};
 use std::test::Fail;
 
 fn shared<T: Send + Sync>(_: &T) {}
@@ -20,31 +19,22 @@ const Y: VarId = VarId(1);
 const Z: VarId = VarId(2);
 
 #[test]
-fn a_bound_implies_an_end_of_a_variable_that_comes_once_or_twice(
+fn a_sum_over_a_box_that_never_moved_is_refuted_or_implies_an_end(
     rt: HostRuntime,
 ) -> Result<(), Fail> {
     let starts = [Start::Span { lo: 1, hi: 9 }, Start::Span { lo: 0, hi: 1 }];
     let cells = Cells::new(rt.alloc(), &starts)?;
-    for (other, bound, end) in [(Y, 6, 3), (X, 24, 4)] {
+    let mut reason = Clause::new(rt.alloc());
+    for (other, bound, end) in [(Y, 1, 0), (Y, 2, 1), (Y, 6, 3), (X, 24, 4)] {
         let args = [Arg::Var(X), Arg::Var(other)];
         let kind = Linear::new(rt.alloc(), &[2, 3], &args, Relation::AtMost, bound)?;
         if kind.refutes(&cells) {
-            return Err("a sum that may be 5 was given up".into());
+            kind.reason(&cells, None, &mut reason)?;
+            assert_eq!(rt; (bound, reason.len()), (1, 0));
+        } else {
+            let implied = Some(literal(X, Rel::Le, end));
+            assert_eq!(rt; kind.next(&cells), implied, "at most {bound}");
         }
-        let implied = Some(literal(X, Rel::Le, end));
-        assert_eq!(rt; kind.next(&cells), implied, "at most {bound}");
-    }
-    Ok(())
-}
-
-#[test]
-fn a_sum_above_its_bound_is_refuted(rt: HostRuntime) -> Result<(), Fail> {
-    let args = [Arg::Var(X), Arg::Var(Y)];
-    let starts = [Start::Span { lo: 1, hi: 9 }, Start::Span { lo: 0, hi: 1 }];
-    let cells = Cells::new(rt.alloc(), &starts)?;
-    for (bound, refuted) in [(1, true), (2, false)] {
-        let kind = Linear::new(rt.alloc(), &[2, 3], &args, Relation::AtMost, bound)?;
-        assert_eq!(rt; kind.refutes(&cells), refuted, "at most {bound}");
     }
     Ok(())
 }
@@ -109,23 +99,6 @@ fn a_reason_names_the_ends_that_moved_and_the_implied_end(rt: HostRuntime) -> Re
 }
 
 #[test]
-fn cells_that_never_moved_are_refuted_for_no_reason_but_the_sum(
-    rt: HostRuntime,
-) -> Result<(), Fail> {
-    let args = [Arg::Var(X), Arg::Var(Y)];
-    let kind = Linear::new(rt.alloc(), &[2, 3], &args, Relation::AtMost, 1)?;
-    let starts = [Start::Span { lo: 1, hi: 9 }, Start::Span { lo: 0, hi: 1 }];
-    let cells = Cells::new(rt.alloc(), &starts)?;
-    let mut reason = Clause::new(rt.alloc());
-    if !kind.refutes(&cells) {
-        return Err("a sum of at least 2 is not given up".into());
-    }
-    kind.reason(&cells, None, &mut reason)?;
-    assert!(rt; reason.literals().is_empty());
-    Ok(())
-}
-
-#[test]
 fn comparisons_are_sums(rt: HostRuntime) -> Result<(), Fail> {
     let args = [Arg::Var(X), Arg::Var(Y)];
     let mut a = Assignment::zeros(rt.alloc(), 2)?;
@@ -179,39 +152,6 @@ fn an_equation_is_solved_where_its_variable_stands_once(rt: HostRuntime) -> Resu
     Ok(())
 }
 
-/// The equation 3 x + 2 y - z = 4, solved for z.
-fn solved(rt: &HostRuntime) -> Result<LinearOutput, Fail>
-    ensures { IfOk result (λ d. d ≡ record { front = record { coef = pos 3; arg = Arg.Var (record { 0 = 0 }) } ∷ record { coef = pos 2; arg = Arg.Var (record { 0 = 1 }) } ∷ []; turned = true; output = record { 0 = 2 }; back = []; bound = pos 4 }) }
-{
-    let args = [Arg::Var(X), Arg::Var(Y), Arg::Var(Z)];
-    let linear = Linear::new(rt.alloc(), &[3, 2, -1], &args, Relation::Equal, 4)?;
-    if !linear.can_define(2) {
-        return Err("the coefficient -1 was refused".into());
-    }
-    Ok(LinearOutput::new(rt.alloc(), linear, 2)?)
-}
-
-#[test]
-fn an_equation_gives_a_value_and_a_range_and_a_change(rt: HostRuntime) -> Result<(), Fail> {
-    let kind = solved(&rt)?;
-    shared(&kind);
-    assert_eq!(rt; kind.output(), Z);
-    assert_eq!(rt; kind.vars(), [X, Y, Z].as_slice());
-    assert!(rt; !kind.is_inside(Z));
-    let mut a = Assignment::zeros(rt.alloc(), 3)?;
-    a.set(X, 5);
-    a.set(Y, -1);
-    assert_eq!(rt; kind.value(&a), 9);
-    let mut view = View::for_vars(rt.alloc(), 3)?;
-    let (bit, two) = (Interval::new(0, 1), Interval::new(0, 2));
-    view.set(X, bit, Interval::new(1, 1), bit);
-    view.set(Y, two, two, Interval::new(-1, 0));
-    assert_eq!(rt; kind.range(&Before(&view)), Interval::new(-4, 3));
-    assert_eq!(rt; kind.change(&view), Interval::new(-2, 3));
-    assert!(rt; !kind.keeps(&view));
-    Ok(())
-}
-
 #[test]
 fn a_truth_is_met_where_its_relation_holds(rt: HostRuntime) -> Result<(), Fail> {
     let args = [Arg::Var(X), Arg::Var(Y)];
@@ -256,29 +196,5 @@ fn a_truth_that_is_certain_is_not_0(rt: HostRuntime) -> Result<(), Fail> {
         )?;
         assert_eq!(rt; kind.refutes(&cells), refuted, "at most {bound}");
     }
-    Ok(())
-}
-
-#[test]
-fn a_truth_has_a_value_and_a_range_and_a_change(rt: HostRuntime) -> Result<(), Fail> {
-    let args = [Arg::Var(X), Arg::Var(Y)];
-    let out = Arg::Var(Z);
-    let kind = LinearReified::new(rt.alloc(), &[2, 3], &args, Relation::AtMost, 4, out)?;
-    let mut a = Assignment::zeros(rt.alloc(), 3)?;
-    a.set(X, 2);
-    assert_eq!(rt; kind.value(&a), 1);
-    a.set(Y, 1);
-    assert_eq!(rt; kind.value(&a), 0);
-    let mut view = View::for_vars(rt.alloc(), 3)?;
-    let (bit, two) = (Interval::new(0, 1), Interval::new(0, 2));
-    view.set(X, two, bit, Interval::new(-1, 0));
-    assert_eq!(rt; kind.range(&Before(&view)), Interval::new(1, 1));
-    view.set(Y, bit, bit, Interval::new(0, 0));
-    assert_eq!(rt; kind.range(&Before(&view)), bit);
-    assert_eq!(rt; kind.change(&view), bit);
-    assert!(rt; !kind.keeps(&view), "a truth that stays 0 may rise");
-    let one = Interval::new(1, 1);
-    view.set(Z, one, one, Interval::new(0, 0));
-    assert!(rt; kind.keeps(&view), "a truth that stays 1 doesn't fall");
     Ok(())
 }

@@ -69,52 +69,32 @@ fn at_most(var: VarId, value: i64) -> Option<Literal> {
 }
 
 #[test]
-fn an_open_truth_follows_a_sum_that_is_certain_or_refuted(rt: HostRuntime) -> Result<(), Fail> {
-    for (relation, bound, end) in [
-        (Relation::AtMost, 28, None),
-        (Relation::AtMost, 29, at_least(Z, 1)),
-        (Relation::AtMost, 0, None),
-        (Relation::AtMost, -1, at_most(Z, 0)),
-        (Relation::Equal, 29, None),
-        (Relation::Equal, 30, at_most(Z, 0)),
-        (Relation::Differ, 0, None),
-        (Relation::Differ, -1, at_least(Z, 1)),
+fn a_truth_follows_its_sum_and_implies_ends_once_it_is_given(rt: HostRuntime) -> Result<(), Fail> {
+    for (truth, relation, bound, end) in [
+        (None, Relation::AtMost, 28, None),
+        (None, Relation::AtMost, 29, at_least(Z, 1)),
+        (None, Relation::AtMost, 0, None),
+        (None, Relation::AtMost, -1, at_most(Z, 0)),
+        (None, Relation::Equal, 29, None),
+        (None, Relation::Equal, 30, at_most(Z, 0)),
+        (None, Relation::Differ, 0, None),
+        (None, Relation::Differ, -1, at_least(Z, 1)),
+        (Some(true), Relation::AtMost, 29, None),
+        (Some(true), Relation::AtMost, 26, at_most(Y, 8)),
+        (Some(true), Relation::AtMost, 7, at_most(Y, 2)),
+        (Some(true), Relation::AtMost, 1, at_most(X, 0)),
+        (Some(true), Relation::Equal, 29, at_least(X, 1)),
+        (Some(true), Relation::Equal, 7, at_least(Y, 2)),
+        (Some(true), Relation::Differ, 7, None),
+        (Some(false), Relation::AtMost, 1, None),
+        (Some(false), Relation::AtMost, 7, at_least(Y, 2)),
+        (Some(false), Relation::AtMost, 26, at_least(Y, 9)),
+        (Some(false), Relation::AtMost, 28, at_least(X, 1)),
+        (Some(false), Relation::Equal, 7, None),
+        (Some(false), Relation::Differ, 7, at_least(Y, 2)),
+        (Some(false), Relation::Differ, 0, at_most(X, 0)),
     ] {
-        let found = implied(&rt, relation, bound, None)?;
-        assert_eq!(rt; found, end, "{relation:?} {bound}");
-    }
-    Ok(())
-}
-
-#[test]
-fn a_truth_of_1_implies_the_ends_of_its_relation(rt: HostRuntime) -> Result<(), Fail> {
-    for (relation, bound, end) in [
-        (Relation::AtMost, 29, None),
-        (Relation::AtMost, 26, at_most(Y, 8)),
-        (Relation::AtMost, 7, at_most(Y, 2)),
-        (Relation::AtMost, 1, at_most(X, 0)),
-        (Relation::Equal, 29, at_least(X, 1)),
-        (Relation::Equal, 7, at_least(Y, 2)),
-        (Relation::Differ, 7, None),
-    ] {
-        let found = implied(&rt, relation, bound, Some(true))?;
-        assert_eq!(rt; found, end, "{relation:?} {bound}");
-    }
-    Ok(())
-}
-
-#[test]
-fn a_truth_of_0_implies_the_ends_of_the_opposite(rt: HostRuntime) -> Result<(), Fail> {
-    for (relation, bound, end) in [
-        (Relation::AtMost, 1, None),
-        (Relation::AtMost, 7, at_least(Y, 2)),
-        (Relation::AtMost, 26, at_least(Y, 9)),
-        (Relation::AtMost, 28, at_least(X, 1)),
-        (Relation::Equal, 7, None),
-        (Relation::Differ, 7, at_least(Y, 2)),
-        (Relation::Differ, 0, at_most(X, 0)),
-    ] {
-        let found = implied(&rt, relation, bound, Some(false))?;
+        let found = implied(&rt, relation, bound, truth)?;
         assert_eq!(rt; found, end, "{relation:?} {bound}");
     }
     Ok(())
