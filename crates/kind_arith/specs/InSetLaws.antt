@@ -1,9 +1,8 @@
 -- The laws of restrictions.
-use Rattle.std.proofs.Common.{◌≡◌, Bool, true, false, not, ◌||◌, List, [], ℕ, ℤ, pos, ◌-ℤ◌, int_le, refl, ◌∙◌, ap, arith}
-use Rattle.std.specs.Ordering.{int_eq}
+use Rattle.std.proofs.Common.{◌≡◌, true, not, ◌||◌, List, [], ℕ, ℤ, pos, ◌-ℤ◌, int_le, refl, ◌∙◌, ap, arith}
 use Rattle.dom_core.specs.declared.set.Set.{Set}
 use Rattle.dom_core.specs.declared.set.Set.TheVariants.{Range, Values}
-use Rattle.dom_core.proofs.RisesLaws.{or_right, int_eq_same}
+use Rattle.dom_core.proofs.RisesLaws.{or_right}
 use Rattle.dom_core.specs.View.{movement_at}
 use Rattle.std.proofs.lemmas.Int.{ints}
 use Rattle.dom_core.specs.Ends.{Ends, only, lies_in}
@@ -11,7 +10,7 @@ use Rattle.dom_core.specs.declared.arg.Arg.{Arg}
 use Rattle.dom_core.specs.declared.arg.Arg.TheVariants.{Var, Const}
 use Rattle.dom_core.specs.declared.view.Movement.{Movement}
 use Rattle.kind_law.proofs.OutputLaws.{still_ends}
-use Rattle.dom_core.proofs.TestLaws.{not_true, not_false, not_both, and_first, and_second, and_both}
+use Rattle.dom_core.proofs.TestLaws.{not_true, not_false, not_both, and_first, and_both}
 use Rattle.dom_cells.specs.Cell.{has_of}
 use Rattle.dom_cells.specs.declared.start.Start.{Start}
 use Rattle.dom_cells.specs.declared.start.Start.TheVariants.{Span}

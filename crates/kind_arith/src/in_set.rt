@@ -2,9 +2,7 @@
 ghost use Rattle.std.specs.Prelude.{◌≡◌, ◌<◌, [], false, if◌then◌else◌, length, IfOk, OnErr};
 ghost use Rattle.dom_cells.specs.Box.{cell_of};
 ghost use Rattle.dom_core.specs.declared.arg.Arg.{Arg};
-ghost use Rattle.kind_law.specs.Next.{IsNext};
-ghost use Rattle.kind_law.specs.Visit.{IsVisited};
-ghost use Rattle.kind_arith.specs.InSet.{restricted_vars, restriction_refuted};
+ghost use Rattle.kind_arith.specs.InSet.{IsNextEnd, Visits, restriction_refuted};
 ghost use Rattle.kind_parts.specs.Set.{IsSorted, IsPlainOf};
 
 use crate::ends::{lower, upper, write_ends};
@@ -60,7 +58,7 @@ impl InSet {
         requires arg { self.now.arg ≡ Arg.Var var }
         requires below { var.0 < length cells.now.state.starts }
         requires empty { ends.old ≡ [] }
-        ensures visited { IfOk result (λ v. IsVisited (restriction_refuted self.now) (restricted_vars self.now) (cell_of cells.now.state) (length cells.now.state.starts) v ends.new) }
+        ensures visited { IfOk result (λ v. Visits self.now cells.now.state v ends.new) }
         ensures none { OnErr result (ends.new ≡ []) }
     {
         let _width = cells.width();
@@ -83,7 +81,7 @@ impl InSet {
         requires arg { self.now.arg ≡ Arg.Var var }
         requires below { var.0 < length cells.now.state.starts }
         requires quiet { restriction_refuted self.now (cell_of cells.now.state) ≡ false }
-        ensures { IsNext (restriction_refuted self.now) (restricted_vars self.now) (cell_of cells.now.state) result }
+        ensures { IsNextEnd self.now (cell_of cells.now.state) result }
     {
         let Some(lo) = least(&self.set, cells, var) else {
             return None;

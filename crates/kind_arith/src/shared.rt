@@ -1,12 +1,10 @@
 //! The least and the greatest value that a set and a cell have in common.
-ghost use Rattle.std.specs.Prelude.{◌≡◌, ◌<◌, false, length, MatchOption, ◌<ℤ◌};
+ghost use Rattle.std.specs.Prelude.{◌<◌, length};
 ghost use Rattle.dom_core.specs.Rises.{Rises};
 ghost use Rattle.dom_core.specs.declared.set.Set.TheVariants.{Values as Listed};
 ghost use Rattle.dom_cells.specs.Box.{cell_of};
-ghost use Rattle.dom_cells.specs.Cell.{lo_of, hi_of, has_of};
-ghost use Rattle.dom_cells.specs.Flagged.{IsFloor, IsCeiling};
-ghost use Rattle.kind_parts.specs.Set.{IsSorted, set_meets, range_meets, list_meets};
-ghost use Rattle.kind_arith.specs.Shared.{IsLeastShared, IsGreatestShared};
+ghost use Rattle.kind_parts.specs.Set.{IsSorted};
+ghost use Rattle.kind_arith.specs.Shared.{IsLeastFound, IsGreatestFound, IsCeilingFound, IsFloorFound};
 
 use dom_cells::Cells;
 use dom_core::{Set, VarId};
@@ -15,7 +13,7 @@ use dom_core::{Set, VarId};
 pub(crate) fn least(set: &Set, cells: &Cells, var: VarId) -> Option<i64>
     requires var { var.0 < length cells.now.state.starts }
     requires sorted { IsSorted set.now }
-    ensures { MatchOption result (set_meets set.now (cell_of cells.now.state var.0) ≡ false) (IsLeastShared set.now (cell_of cells.now.state var.0)) }
+    ensures { IsLeastFound set.now (cell_of cells.now.state var.0) result }
 {
     match set {
         Set::Range { lo, hi } => least_between(*lo, *hi, cells, var),
@@ -27,7 +25,7 @@ pub(crate) fn least(set: &Set, cells: &Cells, var: VarId) -> Option<i64>
 pub(crate) fn greatest(set: &Set, cells: &Cells, var: VarId) -> Option<i64>
     requires var { var.0 < length cells.now.state.starts }
     requires sorted { IsSorted set.now }
-    ensures { MatchOption result (set_meets set.now (cell_of cells.now.state var.0) ≡ false) (IsGreatestShared set.now (cell_of cells.now.state var.0)) }
+    ensures { IsGreatestFound set.now (cell_of cells.now.state var.0) result }
 {
     match set {
         Set::Range { lo, hi } => greatest_between(*lo, *hi, cells, var),
@@ -39,7 +37,7 @@ pub(crate) fn greatest(set: &Set, cells: &Cells, var: VarId) -> Option<i64>
 #[tactic(auto, using(crate::proofs::SharedLaws::range_above))]
 fn least_between(lo: i64, hi: i64, cells: &Cells, var: VarId) -> Option<i64>
     requires { var.0 < length cells.now.state.starts }
-    ensures { MatchOption result (range_meets lo hi (cell_of cells.now.state var.0) ≡ false) (IsLeastShared (Set.Range lo hi) (cell_of cells.now.state var.0)) }
+    ensures { IsLeastFound (Set.Range lo hi) (cell_of cells.now.state var.0) result }
 {
     let _width = cells.width();
     let Some(least) = least_from(cells, var, lo) else {
@@ -55,7 +53,7 @@ fn least_between(lo: i64, hi: i64, cells: &Cells, var: VarId) -> Option<i64>
 #[tactic(auto, using(crate::proofs::SharedLaws::range_below))]
 fn greatest_between(lo: i64, hi: i64, cells: &Cells, var: VarId) -> Option<i64>
     requires { var.0 < length cells.now.state.starts }
-    ensures { MatchOption result (range_meets lo hi (cell_of cells.now.state var.0) ≡ false) (IsGreatestShared (Set.Range lo hi) (cell_of cells.now.state var.0)) }
+    ensures { IsGreatestFound (Set.Range lo hi) (cell_of cells.now.state var.0) result }
 {
     let _width = cells.width();
     let Some(greatest) = greatest_to(cells, var, hi) else {
@@ -71,7 +69,7 @@ fn greatest_between(lo: i64, hi: i64, cells: &Cells, var: VarId) -> Option<i64>
 #[tactic(auto, using(crate::proofs::SharedLaws::ceiling_at_low))]
 fn least_from(cells: &Cells, var: VarId, number: i64) -> Option<i64>
     requires { var.0 < length cells.now.state.starts }
-    ensures { MatchOption result (hi_of (cell_of cells.now.state var.0) <ℤ number) (IsCeiling (has_of (cell_of cells.now.state var.0)) number) }
+    ensures { IsCeilingFound (cell_of cells.now.state var.0) number result }
 {
     let lo = cells.lo(var);
     if number <= lo {
@@ -87,7 +85,7 @@ fn least_from(cells: &Cells, var: VarId, number: i64) -> Option<i64>
 #[tactic(auto, using(crate::proofs::SharedLaws::floor_at_high))]
 fn greatest_to(cells: &Cells, var: VarId, number: i64) -> Option<i64>
     requires { var.0 < length cells.now.state.starts }
-    ensures { MatchOption result (number <ℤ lo_of (cell_of cells.now.state var.0)) (IsFloor (has_of (cell_of cells.now.state var.0)) number) }
+    ensures { IsFloorFound (cell_of cells.now.state var.0) number result }
 {
     let hi = cells.hi(var);
     if hi <= number {
@@ -103,7 +101,7 @@ fn greatest_to(cells: &Cells, var: VarId, number: i64) -> Option<i64>
 fn first_listed(values: &[i64], cells: &Cells, var: VarId) -> Option<i64>
     requires var { var.0 < length cells.now.state.starts }
     requires rises { Rises values.now }
-    ensures { MatchOption result (list_meets values.now (cell_of cells.now.state var.0) ≡ false) (IsLeastShared (Listed values.now) (cell_of cells.now.state var.0)) }
+    ensures { IsLeastFound (Listed values.now) (cell_of cells.now.state var.0) result }
 {
     for value in values {
         if cells.has(var, *value) {
@@ -117,7 +115,7 @@ fn first_listed(values: &[i64], cells: &Cells, var: VarId) -> Option<i64>
 fn last_listed(values: &[i64], cells: &Cells, var: VarId) -> Option<i64>
     requires var { var.0 < length cells.now.state.starts }
     requires rises { Rises values.now }
-    ensures { MatchOption result (list_meets values.now (cell_of cells.now.state var.0) ≡ false) (IsGreatestShared (Listed values.now) (cell_of cells.now.state var.0)) }
+    ensures { IsGreatestFound (Listed values.now) (cell_of cells.now.state var.0) result }
 {
     let mut behind = values.len();
     while behind > 0 {
