@@ -1,5 +1,7 @@
+mod DescentLaws
 mod GrownLaws
 mod MetLaws
+mod OrderLaws
 mod Places
 mod RankLaws
 mod RowLaws

@@ -1,5 +1,5 @@
 -- Places in lists.
-use Rattle.std.proofs.Common.{◌≡◌, ◌⊎◌, inl, inr, ℕ, zero, suc, ◌≤◌, List, [], ◌∷◌, ◌++◌, length, Some, slice_get, refl, ap, arith}
+use Rattle.std.proofs.Common.{◌≡◌, ◌⊎◌, inl, inr, ℕ, zero, suc, ◌<◌, ◌≤◌, List, [], ◌∷◌, ◌++◌, length, take, Some, slice_get, refl, ap, arith}
 
 pub one_there : {X : Type 0} (xs : List X) (i : ℕ) (x y : X) → slice_get xs i ≡ Some x → slice_get xs i ≡ Some y → x ≡ y
 one_there xs i x y e f = cc
@@ -25,3 +25,11 @@ pub past_none : {X : Type 0} (xs : List X) (i : ℕ) → ((x : X) → slice_get 
 past_none [] i none = omega arith
 past_none (x ∷ xs) zero none = absurd (none x refl)
 past_none (x ∷ xs) (suc i) none = omega (arith, past_none xs i none)
+
+-- what stands among the first so many stands in the list, before them
+pub taken : {X : Type 0} (xs : List X) (n i : ℕ) (x : X) → slice_get (take n xs) i ≡ Some x → (j : ℕ) × (j < n) × (slice_get xs j ≡ Some x)
+taken [] zero i x e = absurd cc
+taken [] (suc n) i x e = absurd cc
+taken (y ∷ xs) zero i x e = absurd cc
+taken (y ∷ xs) (suc n) zero x e = (zero, omega arith, e)
+taken (y ∷ xs) (suc n) (suc i) x e = (let rest = taken xs n i x e in (suc rest.0, omega (arith, rest.1), rest.2))

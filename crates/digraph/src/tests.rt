@@ -1,5 +1,5 @@
 //! Small graphs, and long ones.
-use crate::Digraph;
+use crate::{Digraph, ordered_is_acyclic};
 use std::alloc::{AllocError, Global};
 
 fn shared<T: Send + Sync>(_: &T) {}
@@ -125,4 +125,55 @@ fn a_long_cycle_is_found(rt: HostRuntime) {
         .first_on_cycle(rt.alloc(), &among)
         .expect(&rt, "an answer");
     assert!(rt; found == Some(0), "the whole graph is one cycle");
+}
+
+#[test]
+fn each_node_stands_behind_its_successors(rt: HostRuntime) {
+    ordered_is_acyclic();
+    let cases: [(&[&[usize]], Option<&[usize]>); 11] = [
+        // no node, one node, one that leads to itself
+        (&[], Some(&[])),
+        (&[&[]], Some(&[0])),
+        (&[&[0]], None),
+        // chains both ways
+        (&[&[1], &[2], &[]], Some(&[2, 1, 0])),
+        (&[&[], &[0], &[1]], Some(&[0, 1, 2])),
+        // a diamond: what two nodes lead to stands once, before both
+        (&[&[1, 2], &[3], &[3], &[]], Some(&[3, 1, 2, 0])),
+        // a successor that is named twice, and one that is done before
+        (&[&[2, 2], &[2], &[]], Some(&[2, 0, 1])),
+        // successors that are no nodes
+        (&[&[9, 1], &[4_000_000_000]], Some(&[1, 0])),
+        // a cycle of two, a cycle that other nodes lead to, and one behind nodes that are done
+        (&[&[1], &[0]], None),
+        (&[&[1], &[2], &[3], &[1]], None),
+        (&[&[], &[0], &[3], &[1, 2]], None),
+    ];
+    for (case, (rows, order)) in cases.iter().enumerate() {
+        let graph = graph_of(rt.alloc(), *rows).expect(&rt, "a graph");
+        match (graph.order(rt.alloc()).expect(&rt, "an answer"), *order) {
+            (Some(found), Some(wanted)) => {
+                assert!(rt; found.as_slice() == wanted, "case {case}");
+            }
+            (None, None) => {}
+            _ => panic!(rt; "case {case}"),
+        }
+    }
+}
+
+#[test]
+fn a_long_chain_is_ordered(rt: HostRuntime) {
+    let mut graph = Digraph::new(rt.alloc());
+    for node in 0..100_000 {
+        add(&mut graph, &[node + 1]).expect(&rt, "a node");
+    }
+    assert_eq!(rt; graph.len(), 100_000);
+    let order = graph
+        .order(rt.alloc())
+        .expect(&rt, "an answer")
+        .expect(&rt, "an order");
+    assert_eq!(rt; order.len(), 100_000);
+    for (place, node) in order.iter().enumerate() {
+        assert!(rt; place + *node == 99_999, "place {place}");
+    }
 }
