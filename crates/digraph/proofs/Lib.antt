@@ -2,8 +2,10 @@ mod DescentLaws
 mod GrownLaws
 mod MetLaws
 mod OrderLaws
+mod PathLaws
 mod Places
 mod RankLaws
 mod RowLaws
 mod SearchLaws
+mod StepLaws
 pub mod WalkLaws

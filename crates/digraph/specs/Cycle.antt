@@ -19,6 +19,10 @@ Reaches graph a b = (through : List ℕ) × IsPath graph a through b
 abbrev pub IsOnCycle : List (List ℕ) → ℕ → Type 0
 IsOnCycle graph k = Reaches graph k k
 
+-- some node reaches itself
+abbrev pub HasCycle : List (List ℕ) → Type 0
+HasCycle graph = (k : ℕ) × IsOnCycle graph k
+
 -- the node is one of those asked for, and lies on a cycle
 abbrev pub IsAskedOnCycle : List (List ℕ) → List Bool → ℕ → Type 0
 IsAskedOnCycle graph among k = (slice_get among k ≡ Some true) × IsOnCycle graph k

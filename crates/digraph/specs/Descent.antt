@@ -36,17 +36,21 @@ entered d k = record { states = slice_set d.states k (Open 0); path = d.path ++ 
 
 -- the walk goes back from the node, which is done
 abbrev pub left : Descent → ℕ → Descent
-left d k = record { states = slice_set d.states k Done; path = take (length d.path - 1) d.path; order = d.order ++ k ∷ [] }
+left d k = record {
+  states = slice_set d.states k Done;
+  path = take (length d.path - 1) d.path;
+  order = d.order ++ k ∷ [];
+}
 
 -- the node is where the path ends
 abbrev pub IsTop : List ℕ → ℕ → Type 0
 IsTop path k = slice_get path (length path - 1) ≡ Some k
 
--- the walk looks at a successor that stands so: it comes to a fresh one, passes one that is done, and stops at one on the path
-abbrev pub IsMet : State → Descent → ℕ → ℕ → ℕ → Bool → Descent → Type 0
-IsMet Fresh old node next to goes_on new = (goes_on ≡ true) × (new ≡ entered old to)
-IsMet (Open edge) old node next to goes_on new = (goes_on ≡ false) × (new ≡ old)
-IsMet Done old node next to goes_on new = (goes_on ≡ true) × (new ≡ put old node (Open next))
+-- the walk looks at a successor that stands so: it comes to a fresh one, stops at one on the path, and passes one done
+abbrev pub LooksAt : State → Descent → ℕ → ℕ → ℕ → Bool → Descent → Type 0
+LooksAt Fresh old node next to goes_on new = (goes_on ≡ true) × (new ≡ entered old to)
+LooksAt (Open edge) old node next to goes_on new = (goes_on ≡ false) × (new ≡ old)
+LooksAt Done old node next to goes_on new = (goes_on ≡ true) × (new ≡ put old node (Open next))
 
 -- an edge leads from each node on the path to the next
 abbrev pub IsLinked : List (List ℕ) → List ℕ → Type 0
@@ -65,7 +69,7 @@ pub record IsDescent (graph : List (List ℕ)) (d : Descent) : Type 0 where
   pub once : IsOnce d.order
   pub behind : IsBehind graph d.order
 
--- how many steps a node may still cost that stands so and has so many successors
+-- how many steps a node that stands so and has so many successors may still cost
 abbrev pub cost_of : State → ℕ → ℕ
 cost_of Fresh count = suc (suc count)
 cost_of (Open edge) count = suc (count - edge)

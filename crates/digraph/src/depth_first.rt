@@ -1,14 +1,14 @@
 //! A walk in depth through a graph, which puts each node behind its successors.
-ghost use Rattle.std.specs.Prelude.{◌≡◌, ◌+◌, ◌-◌, ◌<◌, ◌^◌, ℕ, [], length, slice_get, slice_index_or, IfOk, OnOk, OnSome, MatchBool};
-ghost use Rattle.digraph.specs.Cycle.{IsOnCycle};
-ghost use Rattle.digraph.specs.Descent.{IsTop, IsMet, IsDescent, IsStep, IsBack, IsRested, state_at, edge_of, put, fresh_of, entered, left};
+ghost use Rattle.std.specs.Prelude.{◌≡◌, ◌+◌, ◌-◌, ◌<◌, ◌^◌, [], length, slice_get, slice_index_or, IfOk, OnOk, OnSome, MatchBool};
+ghost use Rattle.digraph.specs.Cycle.{HasCycle};
+ghost use Rattle.digraph.specs.Descent.{IsTop, LooksAt, IsDescent, IsStep, IsBack, IsRested, state_at, edge_of, put, fresh_of, entered, left};
 
 use crate::graph::Digraph;
 use std::alloc::{AllocError, Global};
 use std::marker::Model;
 
-/// How a node stands: the walk hasn't come to it, or it is on the path and this edge comes next, or all is done behind it.
-#[derive(Clone, Copy, Debug, Drop)]
+/// How a node stands: not come to yet, on the path with the edge that comes next, or done with all that it leads to.
+#[derive(Clone, Copy)]
 pub(crate) enum State {
     Fresh,
     Open { edge: usize },
@@ -103,9 +103,9 @@ impl DepthFirst {
     }
 
     // Looks at a successor of the node, whose next edge is then this one; false where it stands on the path.
-    fn meet(&mut self, node: usize, next: usize, to: usize) -> Result<bool, AllocError>
+    fn look_at(&mut self, node: usize, next: usize, to: usize) -> Result<bool, AllocError>
         requires { node < length self.old.states }
-        ensures { IfOk result (λ goes_on. IsMet (state_at self.old to) self.old node next to goes_on self.new) }
+        ensures { IfOk result (λ b. LooksAt (state_at self.old to) self.old node next to b self.new) }
     {
         match self.at(to) {
             State::Fresh => self.enter(to)?,
@@ -119,11 +119,11 @@ impl DepthFirst {
     fn step(&mut self, graph: &Digraph, node: usize) -> Result<bool, AllocError>
         requires known { IsDescent graph.now self.old }
         requires top { IsTop self.old.path node }
-        ensures { IfOk result (λ goes_on. MatchBool goes_on (IsStep graph.now self.old self.new) ((k : ℕ) × IsOnCycle graph.now k)) }
+        ensures { IfOk result (λ b. MatchBool b (IsStep graph.now self.old self.new) (HasCycle graph.now)) }
     {
         let edge = self.edge(node);
         match successor_at(graph, node, edge) {
-            Some(to) => self.meet(node, edge + 1, to),
+            Some(to) => self.look_at(node, edge + 1, to),
             None => {
                 self.leave(node)?;
                 Ok(true)
@@ -134,7 +134,7 @@ impl DepthFirst {
     // Walks on until the path is empty; false where a step closes a cycle.
     fn finish(&mut self, graph: &Digraph) -> Result<bool, AllocError>
         requires { IsDescent graph.now self.old }
-        ensures { IfOk result (λ acyclic. MatchBool acyclic (IsBack graph.now self.old self.new) ((k : ℕ) × IsOnCycle graph.now k)) }
+        ensures { IfOk result (λ b. MatchBool b (IsBack graph.now self.old self.new) (HasCycle graph.now)) }
     {
         while let Some(node) = self.top() {
             if !self.step(graph, node)? {
@@ -148,7 +148,8 @@ impl DepthFirst {
     pub(crate) fn explore(&mut self, graph: &Digraph, root: usize) -> Result<bool, AllocError>
         requires rested { IsRested graph.now root self.old }
         requires node { root < length graph.now }
-        ensures { IfOk result (λ acyclic. MatchBool acyclic (IsRested graph.now (root + 1) self.new) ((k : ℕ) × IsOnCycle graph.now k)) }
+        ensures { IfOk result
+            (λ b. MatchBool b (IsRested graph.now (root + 1) self.new) (HasCycle graph.now)) }
     {
         if let State::Fresh = self.at(root) {
             self.enter(root)?;

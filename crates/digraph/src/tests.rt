@@ -174,6 +174,6 @@ fn a_long_chain_is_ordered(rt: HostRuntime) {
         .expect(&rt, "an order");
     assert_eq!(rt; order.len(), 100_000);
     for (place, node) in order.iter().enumerate() {
-        assert!(rt; place + *node == 99_999, "place {place}");
+        assert!(rt; place.saturating_add(*node) == 99_999, "place {place}");
     }
 }

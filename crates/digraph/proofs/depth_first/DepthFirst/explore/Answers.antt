@@ -1,6 +1,6 @@
 use Rattle.std.proofs.Common.{sym}
 use Rattle.std.proofs.lemmas.Result.{IfOk-weaker}
-use Rattle.digraph.proofs.DescentLaws.{root_known, root_back}
+use Rattle.digraph.proofs.StepLaws.{root_known, root_back}
 use Rattle.digraph.proofs.depth_first.DepthFirst.explore.Goals as goal
 
 pub finish-requires : goal.finish-requires

@@ -1,5 +1,5 @@
 use Rattle.std.proofs.Common.{arith}
-use Rattle.digraph.proofs.DescentLaws.{rested_order}
+use Rattle.digraph.proofs.StepLaws.{rested_order}
 use Rattle.digraph.proofs.graph.Digraph.order.Goals as goal
 
 pub returns : goal.returns
