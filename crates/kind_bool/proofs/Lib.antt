@@ -1,0 +1,4 @@
+pub mod PlaceLaws
+pub mod PlanLaws
+pub mod ToldLaws
+pub mod ClauseLaws

@@ -1,0 +1,18 @@
+//! Clauses and the Boolean functions and, or and xor.
+#![tactic(auto)]
+
+mod clause;
+mod connective;
+mod operand;
+mod operands;
+mod parts;
+mod plan;
+mod probe;
+mod reasons;
+mod turns;
+
+pub use clause::BoolClause;
+pub use connective::{
+    And, BoolClauseReified, ClauseTruth, Conjunction, Connective, Disjunction, Or,
+};
+pub use operand::Operand;
