@@ -2,3 +2,4 @@ pub mod PlaceLaws
 pub mod PlanLaws
 pub mod ToldLaws
 pub mod ClauseLaws
+pub mod XorTruths

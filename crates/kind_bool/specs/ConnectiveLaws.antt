@@ -22,7 +22,7 @@ use Rattle.kind_bool.specs.declared.operand.Operand.{Operand}
 -- ---- truths of tests
 
 -- a truth lies in its truths, where what is certain holds and what is refuted fails
-truth_lies : (f t certain refuted : Bool) → (certain ≡ true → t ≡ true) → (refuted ≡ true → t ≡ false) → lies_in (number_of (turned f t)) (truths_of f certain refuted) ≡ true
+pub truth_lies : (f t certain refuted : Bool) → (certain ≡ true → t ≡ true) → (refuted ≡ true → t ≡ false) → lies_in (number_of (turned f t)) (truths_of f certain refuted) ≡ true
 truth_lies f true certain true h g = absurd (not_both true refl (g refl))
 truth_lies f false true refuted h g = absurd (not_both false (h refl) refl)
 truth_lies false true true false h g = refl
@@ -43,7 +43,7 @@ connective-range k a s h =
     (certain_met k.operands a s h) (refuted_unmet k.operands a s h)
 
 -- smaller truths lie in larger ones, where more is certain and more refuted of them, and not both
-truths_within : (f c d r q : Bool) → (d ≡ true → c ≡ true) → (q ≡ true → r ≡ true) → (c ≡ true → r ≡ true → ⊥) → EndsIn (truths_of f c r) (truths_of f d q)
+pub truths_within : (f c d r q : Bool) → (d ≡ true → c ≡ true) → (q ≡ true → r ≡ true) → (c ≡ true → r ≡ true → ⊥) → EndsIn (truths_of f c r) (truths_of f d q)
 truths_within f true d true q h g both = absurd (both refl refl)
 truths_within f false true r q h g both = absurd (not_both false (h refl) refl)
 truths_within f c d false true h g both = absurd (not_both false (g refl) refl)
@@ -58,7 +58,7 @@ truths_within true false false true true h g both = record { low = omega (arith,
 truths_within true true false false false h g both = record { low = omega (arith, ints); order = omega (arith, ints); high = omega (arith, ints) }
 truths_within true true true false false h g both = record { low = omega (arith, ints); order = omega (arith, ints); high = omega (arith, ints) }
 
-never_both : (n : Bool) (e : Ends) → e.lo ≤ℤ e.hi → is_certain (not n) e ≡ true → is_certain n e ≡ false
+pub never_both : (n : Bool) (e : Ends) → e.lo ≤ℤ e.hi → is_certain (not n) e ≡ true → is_certain n e ≡ false
 never_both false e order h =
     let none : e.hi ≤ℤ pos 0 = le_true e.hi (pos 0) h in
     false_le (pos 1) e.lo (omega (arith, ints))

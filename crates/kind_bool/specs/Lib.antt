@@ -3,9 +3,11 @@ pub mod BoolClause
 pub mod Connective
 pub mod Plan
 pub mod Told
+pub mod Xor
 pub mod OperandLaws
 pub mod BoolClauseLaws
 pub mod ConnectiveLaws
+pub mod XorLaws
 pub use Rattle.dom_core.specs.Ends
 pub use Rattle.dom_core.specs.Assignment
 pub use Rattle.kind_law.specs.Laws

@@ -10,9 +10,11 @@ mod plan;
 mod probe;
 mod reasons;
 mod turns;
+mod xor;
 
 pub use clause::BoolClause;
 pub use connective::{
     And, BoolClauseReified, ClauseTruth, Conjunction, Connective, Disjunction, Or,
 };
 pub use operand::Operand;
+pub use xor::Xor;

@@ -254,7 +254,7 @@ fn operand_of(operands: &[Operand], place: usize) -> Operand
 }
 
 /// The interval of a truth.
-fn truth(value: bool) -> Interval
+pub(crate) fn truth(value: bool) -> Interval
     ensures { result ≡ only (number_of value) }
 {
     if value {

@@ -1,0 +1,23 @@
+use Rattle.std.proofs.Common.{◌∙◌, true, ap, sym, subst, ◌<◌, length}
+use Rattle.dom_core.specs.declared.view.Movement.{Movement}
+use Rattle.kind_law.specs.Argument.{ArgHas, arg_movement}
+use Rattle.kind_law.specs.Function.{function_kept}
+use Rattle.kind_law.specs.Output.{moved}
+use Rattle.kind_law.proofs.ArgumentLaws.{each_new_arg}
+use Rattle.kind_bool.specs.Xor.{Xor, xor_inputs, xor_range, xor_changed}
+use Rattle.kind_bool.proofs.xor.XorKind.keeps.Goals as goal
+
+pub movement-truth-requires : goal.movement-truth-requires
+movement-truth-requires c = (each_new_arg (λ u. u.0 < length c.args.view.now) (xor_inputs c.args.self.now) c.args.self.now.output c.requires.below).0
+
+pub movement_of-output-requires : goal.movement_of-output-requires
+movement_of-output-requires c =
+    subst (ArgHas (λ u. u.0 < length c.args.view.now)) (sym (ap (λ (k : Xor). k.output) c.self.view_is))
+    (each_new_arg (λ u. u.0 < length c.args.view.now) (xor_inputs c.args.self.now) c.args.self.now.output c.requires.below).1
+
+pub returns : goal.returns
+returns c =
+    c.is_function_kept.ensures
+    ∙ ap (λ (t : Movement). function_kept true t c.movement_of-output.result) c.movement-truth.ensures
+    ∙ ap (function_kept true (moved (xor_range c.args.self.now) (xor_changed c.args.self.now) c.args.view.now))
+    (c.movement_of-output.ensures ∙ ap (λ (k : Xor). arg_movement c.args.view.now k.output) c.self.view_is)
