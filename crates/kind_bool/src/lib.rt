@@ -9,6 +9,8 @@ mod parts;
 mod plan;
 mod probe;
 mod reasons;
+#[cfg(test)]
+mod tests;
 mod turns;
 mod xor;
 
