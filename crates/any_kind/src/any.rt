@@ -4,6 +4,7 @@
 use dom_cells::{Cells, Region};
 use dom_core::{Assignment, Clause, Interval, Intervals, Literal, VarId, View};
 use kind_arith::InSet;
+use kind_bool::{And, BoolClause, BoolClauseReified, Or, Xor};
 use kind_law::{Define, Kind, Propagate, Scratch, Visited};
 use kind_linear::{Linear, LinearOutput, LinearReified};
 use std::alloc::AllocError;
@@ -15,6 +16,11 @@ pub enum AnyKind {
     LinearOutput(LinearOutput),
     LinearReified(LinearReified),
     InSet(InSet),
+    BoolClause(BoolClause),
+    BoolClauseReified(BoolClauseReified),
+    And(And),
+    Or(Or),
+    Xor(Xor),
 }
 
 /// The call at the kind that stands there.
@@ -25,6 +31,11 @@ macro_rules! each {
             AnyKind::LinearOutput($kind) => $call,
             AnyKind::LinearReified($kind) => $call,
             AnyKind::InSet($kind) => $call,
+            AnyKind::BoolClause($kind) => $call,
+            AnyKind::BoolClauseReified($kind) => $call,
+            AnyKind::And($kind) => $call,
+            AnyKind::Or($kind) => $call,
+            AnyKind::Xor($kind) => $call,
         }
     };
 }
@@ -37,6 +48,11 @@ macro_rules! define {
             AnyKind::LinearOutput($kind) => $call,
             AnyKind::LinearReified($kind) => $call,
             AnyKind::InSet(_) => $never,
+            AnyKind::BoolClause(_) => $never,
+            AnyKind::BoolClauseReified($kind) => $call,
+            AnyKind::And($kind) => $call,
+            AnyKind::Or($kind) => $call,
+            AnyKind::Xor($kind) => $call,
         }
     };
 }
