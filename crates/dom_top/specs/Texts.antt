@@ -9,7 +9,7 @@ use Rattle.fzn_lex.specs.Cutting.{IsLexed}
 use Rattle.fzn_syntax.specs.declared.error.SyntaxError.{SyntaxError}
 use Rattle.fzn_syntax.specs.declared.error.SyntaxError.TheVariants as parsing
 use Rattle.fzn_syntax.specs.declared.items.Items.{Items}
-use Rattle.fzn_syntax.specs.Words.{words}
+use Rattle.fzn_words.specs.Words.{words}
 use Rattle.fzn_syntax.specs.Parsed.{IsParsed}
 use Rattle.fzn_lower.specs.declared.error.ModelError.{ModelError}
 use Rattle.fzn_lower.specs.declared.error.ModelError.TheVariants as lowering

@@ -8,7 +8,7 @@ use crate::answer::Answer;
 use crate::fault::ModelFault;
 use crate::writing::write_text;
 use dom_edge::Sink;
-use fzn_counts::Counted;
+use fzn_limits::Counted;
 use fzn_lex::LexError;
 use fzn_lower::ModelError;
 use fzn_syntax::SyntaxError;

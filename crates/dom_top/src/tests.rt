@@ -3,7 +3,7 @@ mod limits;
 use super::*;
 use dom_core::Values;
 use dom_edge::{MemFolder, MemSink, NeverFolder, NeverSink, Sink};
-use fzn_counts::Counted;
+use fzn_limits::Counted;
 use fzn_lex::LexError;
 use fzn_lower::ModelError;
 use fzn_syntax::SyntaxError;

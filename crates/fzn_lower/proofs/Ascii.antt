@@ -13,7 +13,7 @@ use Rattle.fzn_syntax.specs.Texts.{AreOfText}
 use Rattle.fzn_syntax.specs.declared.declaration.Declaration.{Declaration}
 use Rattle.fzn_syntax.specs.declared.declaration.Declaration.TheVariants as declarations
 use Rattle.fzn_syntax.specs.declared.items.Items.{Items}
-use Rattle.fzn_syntax.specs.Words.{words}
+use Rattle.fzn_words.specs.Words.{words}
 
 letter_small : (b : ℕ) → is_letter b ≡ true → b < 128
 unfolding is_letter

@@ -1,10 +1,9 @@
 -- Steps behind each other.
 use Rattle.std.proofs.Common.{◌≡◌, ◌⊎◌, inl, inr, List, Option, Some, None, MatchOption, Result, Ok, Err, refl, sym, ap, subst}
 use Rattle.dom_model.specs.Problem.{Problem}
-use Rattle.fzn_declared.specs.Faults as declared
-use Rattle.fzn_declared.specs.declared.fault.ItemFault.{ItemFault}
-use Rattle.fzn_posted.specs.Faults as posted
-use Rattle.fzn_posted.specs.declared.fault.ConstraintFault.{ConstraintFault}
+use Rattle.fzn_check.specs.DeclarationFaults as declared
+use Rattle.fzn_check.specs.declared.fault.Fault.{Fault}
+use Rattle.fzn_check.specs.ConstraintFaults as posted
 use Rattle.fzn_syntax.specs.declared.constraint.Constraint.{Constraint}
 use Rattle.fzn_syntax.specs.declared.declaration.Declaration.{Declaration}
 use Rattle.fzn_lower.specs.Finding.{Step, ◌⟫◌, Finds, FindsOne}
@@ -80,19 +79,19 @@ one_behind F G f g (Some d) (Some e) (inr h) (inr k) = g (Some d) (Some e) h.1 k
 -- ---- what the lower layers find
 
 -- no declaration is at fault
-pub fine_declarations : (ds es : List Declaration) (o : Option ItemFault) → ds ≡ es → o ≡ None → MatchOption o (declared.IsFine ds) (declared.IsFirstFault ds) → declared.IsFine es
+pub fine_declarations : (ds es : List Declaration) (o : Option Fault) → ds ≡ es → o ≡ None → MatchOption o (declared.IsFine ds) (declared.IsFirstFault ds) → declared.IsFine es
 fine_declarations ds es o same is h = subst declared.IsFine same (rw is at h)
 
 -- this is the first that is
-pub faulty_declaration : (ds es : List Declaration) (o : Option ItemFault) (f : ItemFault) → ds ≡ es → o ≡ Some f → MatchOption o (declared.IsFine ds) (declared.IsFirstFault ds)
+pub faulty_declaration : (ds es : List Declaration) (o : Option Fault) (f : Fault) → ds ≡ es → o ≡ Some f → MatchOption o (declared.IsFine ds) (declared.IsFirstFault ds)
     → declared.IsFirstFault es f
 faulty_declaration ds es o f same is h = subst (λ cs. declared.IsFirstFault cs f) same (rw is at h)
 
 -- likewise constraints
-pub fine_constraints : (ds es : List Declaration) (cs bs : List Constraint) (o : Option ConstraintFault) → ds ≡ es → cs ≡ bs → o ≡ None
+pub fine_constraints : (ds es : List Declaration) (cs bs : List Constraint) (o : Option Fault) → ds ≡ es → cs ≡ bs → o ≡ None
     → MatchOption o (posted.IsFine ds cs) (posted.IsFirstFault ds cs) → posted.IsFine es bs
 fine_constraints ds es cs bs o same all is h = subst (λ xs. posted.IsFine xs bs) same (subst (posted.IsFine ds) all (rw is at h))
 
-pub faulty_constraint : (ds es : List Declaration) (cs bs : List Constraint) (o : Option ConstraintFault) (f : ConstraintFault) → ds ≡ es → cs ≡ bs → o ≡ Some f
+pub faulty_constraint : (ds es : List Declaration) (cs bs : List Constraint) (o : Option Fault) (f : Fault) → ds ≡ es → cs ≡ bs → o ≡ Some f
     → MatchOption o (posted.IsFine ds cs) (posted.IsFirstFault ds cs) → posted.IsFirstFault es bs f
 faulty_constraint ds es cs bs o f same all is h = subst (λ xs. posted.IsFirstFault xs bs f) same (subst (λ xs. posted.IsFirstFault ds xs f) all (rw is at h))

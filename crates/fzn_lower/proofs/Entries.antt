@@ -4,18 +4,18 @@ use Rattle.std.specs.Prelude.{nat_lt}
 use Rattle.std.specs.List.{find, flat_map}
 use Rattle.std.proofs.lemmas.Bool.{cases_Bool}
 use Rattle.std.proofs.lemmas.Option.{same_Some}
-use Rattle.fzn_counts.specs.Entries.{natural, declared_entries, is_named, entries_where_declared, named_entries, basic_entries, expression_entries, constraint_entries, entries_of}
-use Rattle.fzn_counts.specs.Sizes.{limit, lengths_of_expression, lengths_of_value, lengths_of_declaration, lengths_of_constraint, first_above, IsCounted}
-use Rattle.fzn_counts.proofs.Firsts.{both_none, none_at, not_above}
-use Rattle.fzn_counts.proofs.Sums.{bounded}
-use Rattle.fzn_declared.specs.Faults as declared
-use Rattle.fzn_declared.specs.Values.{value_of}
-use Rattle.fzn_declared.proofs.LengthLaws.{short_or_long, parameters_short, variables_short}
+use Rattle.fzn_limits.specs.Entries.{natural, declared_entries, is_named, entries_where_declared, named_entries, basic_entries, expression_entries, constraint_entries, entries_of}
+use Rattle.fzn_limits.specs.Sizes.{limit, lengths_of_expression, lengths_of_value, lengths_of_declaration, lengths_of_constraint, first_above, IsCounted}
+use Rattle.fzn_limits.proofs.Firsts.{both_none, none_at, not_above}
+use Rattle.fzn_limits.proofs.Sums.{bounded}
+use Rattle.fzn_check.specs.DeclarationFaults as declared
+use Rattle.fzn_check.specs.Values.{value_of}
+use Rattle.fzn_check.proofs.LengthLaws.{short_or_long, parameters_short, variables_short}
 use Rattle.fzn_lower.specs.Steps.{FindsSize, FindsName, FindsDeclaration, FindsConstraint}
-use Rattle.fzn_posted.specs.Faults as posted
-use Rattle.fzn_posted.specs.declared.fault.ConstraintFault.TheVariants as faults
-use Rattle.fzn_posted.specs.Posted.{IsPosted}
-use Rattle.fzn_scope.specs.Names.{names_of, AreDifferent}
+use Rattle.fzn_check.specs.ConstraintFaults as posted
+use Rattle.fzn_check.specs.declared.fault.Fault.TheVariants as faults
+use Rattle.fzn_check.specs.Posted.{IsPosted}
+use Rattle.fzn_symbols.specs.Named.{names_of, AreDifferent}
 use Rattle.fzn_syntax.specs.declared.constraint.Constraint.{Constraint}
 use Rattle.fzn_syntax.specs.declared.declaration.Declaration.{Declaration}
 use Rattle.fzn_syntax.specs.declared.declaration.Declaration.TheVariants as declarations
@@ -24,7 +24,7 @@ use Rattle.fzn_syntax.specs.declared.expression.Basic.TheVariants as basics
 use Rattle.fzn_syntax.specs.declared.expression.Expression.{Expression}
 use Rattle.fzn_syntax.specs.declared.expression.Expression.TheVariants as expressions
 use Rattle.fzn_syntax.specs.declared.items.Items.{Items}
-use Rattle.fzn_table.proofs.Few.{few_arguments}
+use Rattle.fzn_signatures.proofs.Few.{few_arguments}
 
 -- ---- lists that are written
 
@@ -97,7 +97,7 @@ module _ (t : Items) (sized : FindsSize t None) (named : FindsName t None) (type
     few k c at =
         elim (short_or_long (length c.arguments) 4) [
           | inl short ↦ short
-          | inr long ↦ absurd (posted_fine k (faults.Wrong c.name.at)
+          | inr long ↦ absurd (posted_fine k (faults.IllTyped c.name.at)
               (c, at, ((λ float. posted_fine k (faults.FloatOrSet c.name.at) (c, at, (float, refl))), too_many c long, refl)))
         ]
       where

@@ -1,15 +1,15 @@
 -- Each step finds one thing at most, and so items have one answer.
 use Rattle.std.proofs.Common.{◌≡◌, ◌⊎◌, ℕ, zero, suc, ◌<◌, ◌≤◌, slice_get, List, Option, Some, None, Result, Ok, Err, inl, inr, refl, sym, ◌∙◌, ap, subst, arith}
 use Rattle.dom_model.specs.Problem.{Problem}
-use Rattle.fzn_counts.specs.declared.counted.Counted.{Counted}
-use Rattle.fzn_counts.specs.declared.counted.Counted.TheVariants.{Variables, Constraints, ArrayEntries, ArgumentEntries, Free}
-use Rattle.fzn_counts.specs.Entries.{entries_of}
-use Rattle.fzn_counts.specs.Sizes.{IsCounted, IsFirstTooMany}
-use Rattle.fzn_counts.specs.Unlisted.{AreKnown, IsFirstUnknown}
-use Rattle.fzn_declared.specs.Faults as declared
-use Rattle.fzn_declared.specs.Goals.{AimsAtFloatOrSet, IsSolveFault, IsSolveFine}
-use Rattle.fzn_declared.specs.declared.fault.ItemFault.{ItemFault}
-use Rattle.fzn_declared.specs.declared.fault.ItemFault.TheVariants as items
+use Rattle.fzn_limits.specs.declared.counted.Counted.{Counted}
+use Rattle.fzn_limits.specs.declared.counted.Counted.TheVariants.{Variables, Constraints, ArrayEntries, ArgumentEntries, Free}
+use Rattle.fzn_limits.specs.Entries.{entries_of}
+use Rattle.fzn_limits.specs.Sizes.{IsCounted, IsFirstTooMany}
+use Rattle.fzn_limits.specs.Unlisted.{AreKnown, IsFirstUnknown}
+use Rattle.fzn_check.specs.DeclarationFaults as declared
+use Rattle.fzn_check.specs.Goals.{AimsAtFloatOrSet, IsSolveFault, IsSolveFine}
+use Rattle.fzn_check.specs.declared.fault.Fault.{Fault}
+use Rattle.fzn_check.specs.declared.fault.Fault.TheVariants as faults
 use Rattle.fzn_lower.proofs.Chained.{one_behind}
 use Rattle.fzn_lower.specs.Finding.{Step, FindsOne, ◌⟫◌}
 use Rattle.fzn_lower.specs.Lowered.{Lowers, HasOneAnswer}
@@ -17,17 +17,15 @@ use Rattle.fzn_lower.specs.Steps.{FindsSize, FindsName, FindsUnknown, FindsDecla
 use Rattle.fzn_lower.specs.declared.error.ModelError.{ModelError}
 use Rattle.fzn_lower.specs.declared.error.ModelError.TheVariants.{TooMany, NameTwice, UnknownName, UnknownConstraint, WrongArguments, FloatOrSet, NotBuilt, Memory}
 use Rattle.fzn_model.specs.Resolves.{Resolves, ResolvesOne}
-use Rattle.fzn_names.specs.declared.error.NameError.{NameError}
-use Rattle.fzn_names.specs.declared.error.NameError.TheVariants as names
-use Rattle.fzn_occurrences.specs.Scoped.{IsScoped}
-use Rattle.fzn_posted.specs.Faults as posted
-use Rattle.fzn_posted.specs.declared.fault.ConstraintFault.{ConstraintFault}
-use Rattle.fzn_posted.specs.declared.fault.ConstraintFault.TheVariants as constraints
-use Rattle.fzn_scope.specs.Names.{names_of, AreDifferent}
+use Rattle.fzn_symbols.specs.declared.error.NameError.{NameError}
+use Rattle.fzn_symbols.specs.declared.error.NameError.TheVariants as names
+use Rattle.fzn_symbols.specs.Scoped.{IsScoped}
+use Rattle.fzn_check.specs.ConstraintFaults as posted
+use Rattle.fzn_symbols.specs.Named.{names_of, AreDifferent}
 use Rattle.fzn_syntax.specs.declared.constraint.Constraint.{Constraint}
 use Rattle.fzn_syntax.specs.declared.declaration.Declaration.{Declaration}
 use Rattle.fzn_syntax.specs.declared.items.Items.{Items}
-use Rattle.fzn_table.specs.Table.{IsEntryOf, IsUnlisted}
+use Rattle.fzn_signatures.specs.Table.{IsEntryOf, IsUnlisted}
 
 -- ---- a step by what it finds
 
@@ -165,17 +163,17 @@ one_unknown t = looks_one (FindsUnknown t) (AreKnown t.constraints) (IsUnknownEr
 
 -- ---- declarations
 
-abbrev item_told : ItemFault → ModelError
-item_told (items.Wrong at) = WrongArguments at
-item_told (items.FloatOrSet at) = FloatOrSet at
+abbrev item_told : Fault → ModelError
+item_told (faults.IllTyped at) = WrongArguments at
+item_told (faults.FloatOrSet at) = FloatOrSet at
 
 abbrev IsDeclarationError : Items → ModelError → Type 0
-IsDeclarationError t e = (f : ItemFault) × (e ≡ item_told f) × declared.IsFirstFault t.declarations f
+IsDeclarationError t e = (f : Fault) × (e ≡ item_told f) × declared.IsFirstFault t.declarations f
 
 declaration_looks : (t : Items) → Looks (FindsDeclaration t) (declared.IsFine t.declarations) (IsDeclarationError t)
 declaration_looks t None h = inl (refl, h)
-declaration_looks t (Some (WrongArguments at)) h = inr (WrongArguments at, refl, (items.Wrong at, refl, h))
-declaration_looks t (Some (FloatOrSet at)) h = inr (FloatOrSet at, refl, (items.FloatOrSet at, refl, h))
+declaration_looks t (Some (WrongArguments at)) h = inr (WrongArguments at, refl, (faults.IllTyped at, refl, h))
+declaration_looks t (Some (FloatOrSet at)) h = inr (FloatOrSet at, refl, (faults.FloatOrSet at, refl, h))
 declaration_looks t (Some _) h = absurd h
 
 one_declaration : (t : Items) → declared.HaveOneFirst → FindsOne (FindsDeclaration t)
@@ -185,17 +183,17 @@ one_declaration t law = looks_one (FindsDeclaration t) (declared.IsFine t.declar
 
 -- ---- constraints
 
-abbrev constraint_told : ConstraintFault → ModelError
-constraint_told (constraints.Wrong at) = WrongArguments at
-constraint_told (constraints.FloatOrSet at) = FloatOrSet at
+abbrev constraint_told : Fault → ModelError
+constraint_told (faults.IllTyped at) = WrongArguments at
+constraint_told (faults.FloatOrSet at) = FloatOrSet at
 
 abbrev IsConstraintError : Items → ModelError → Type 0
-IsConstraintError t e = (f : ConstraintFault) × (e ≡ constraint_told f) × posted.IsFirstFault t.declarations t.constraints f
+IsConstraintError t e = (f : Fault) × (e ≡ constraint_told f) × posted.IsFirstFault t.declarations t.constraints f
 
 constraint_looks : (t : Items) → Looks (FindsConstraint t) (posted.IsFine t.declarations t.constraints) (IsConstraintError t)
 constraint_looks t None h = inl (refl, h)
-constraint_looks t (Some (WrongArguments at)) h = inr (WrongArguments at, refl, (constraints.Wrong at, refl, h))
-constraint_looks t (Some (FloatOrSet at)) h = inr (FloatOrSet at, refl, (constraints.FloatOrSet at, refl, h))
+constraint_looks t (Some (WrongArguments at)) h = inr (WrongArguments at, refl, (faults.IllTyped at, refl, h))
+constraint_looks t (Some (FloatOrSet at)) h = inr (FloatOrSet at, refl, (faults.FloatOrSet at, refl, h))
 constraint_looks t (Some _) h = absurd h
 
 one_constraint : (t : Items) → posted.HaveOneFirst → FindsOne (FindsConstraint t)
@@ -206,19 +204,19 @@ one_constraint t law = looks_one (FindsConstraint t) (posted.IsFine t.declaratio
 -- ---- the goal
 
 abbrev IsGoalError : Items → ModelError → Type 0
-IsGoalError t e = (f : ItemFault) × (e ≡ item_told f) × IsSolveFault t.declarations t.solve f
+IsGoalError t e = (f : Fault) × (e ≡ item_told f) × IsSolveFault t.declarations t.solve f
 
 goal_looks : (t : Items) → Looks (FindsSolve t) (IsSolveFine t.declarations t.solve) (IsGoalError t)
 goal_looks t None h = inl (refl, h)
-goal_looks t (Some (WrongArguments at)) h = inr (WrongArguments at, refl, (items.Wrong at, refl, h))
-goal_looks t (Some (FloatOrSet at)) h = inr (FloatOrSet at, refl, (items.FloatOrSet at, refl, h))
+goal_looks t (Some (WrongArguments at)) h = inr (WrongArguments at, refl, (faults.IllTyped at, refl, h))
+goal_looks t (Some (FloatOrSet at)) h = inr (FloatOrSet at, refl, (faults.FloatOrSet at, refl, h))
 goal_looks t (Some _) h = absurd h
 
-goal_one : (t : Items) (f g : ItemFault) → IsSolveFault t.declarations t.solve f → IsSolveFault t.declarations t.solve g → f ≡ g
-goal_one t (items.Wrong a) (items.Wrong b) h k = ap items.Wrong (h.2 ∙ sym k.2)
-goal_one t (items.Wrong a) (items.FloatOrSet b) h k = absurd (h.0 k.0)
-goal_one t (items.FloatOrSet a) (items.Wrong b) h k = absurd (k.0 h.0)
-goal_one t (items.FloatOrSet a) (items.FloatOrSet b) h k = ap items.FloatOrSet (h.1 ∙ sym k.1)
+goal_one : (t : Items) (f g : Fault) → IsSolveFault t.declarations t.solve f → IsSolveFault t.declarations t.solve g → f ≡ g
+goal_one t (faults.IllTyped a) (faults.IllTyped b) h k = ap faults.IllTyped (h.2 ∙ sym k.2)
+goal_one t (faults.IllTyped a) (faults.FloatOrSet b) h k = absurd (h.0 k.0)
+goal_one t (faults.FloatOrSet a) (faults.IllTyped b) h k = absurd (k.0 h.0)
+goal_one t (faults.FloatOrSet a) (faults.FloatOrSet b) h k = ap faults.FloatOrSet (h.1 ∙ sym k.1)
 
 one_goal : (t : Items) → FindsOne (FindsSolve t)
 one_goal t = looks_one (FindsSolve t) (IsSolveFine t.declarations t.solve) (IsGoalError t) (goal_looks t)

@@ -1,7 +1,7 @@
 //! The first fault of items.
-use fzn_counts::Counted;
+use fzn_limits::Counted;
 use fzn_model::ResolveError;
-use fzn_names::NameError;
+use fzn_symbols::NameError;
 use std::alloc::{AllocError, AllocFailed};
 use thiserror::Error;
 

@@ -2,16 +2,14 @@
 ghost use Rattle.std.specs.Prelude.{◌≡◌, None};
 ghost use Rattle.fzn_lower.specs.Lowered.{HasOneAnswer, IsLowered, Lowers};
 ghost use Rattle.fzn_syntax.specs.Texts.{AreOfText};
-ghost use Rattle.fzn_lower.specs.Finding.{◌⟫◌};
-ghost use Rattle.fzn_lower.specs.Steps.{FindsSize, FindsName, FindsUnknown, FindsDeclaration, FindsConstraint, FindsSolve, FindsEntries};
+ghost use Rattle.fzn_lower.specs.Steps.{FindsSize, FindsName, FindsDeclaration, FindsNameOn, FindsUnknownOn, FindsDeclarationOn, FindsConstraintOn};
 
 use crate::error::ModelError;
 use crate::steps::{check_declarations, check_names, check_sizes, check_valued};
 use dom_model::Model;
+use fzn_check::{constraints_have_one_first_fault, declarations_have_one_first_fault};
 use fzn_model::{ResolveError, model_of};
-use fzn_names::NameError;
-use fzn_occurrences::scope_of;
-use fzn_scope::Scope;
+use fzn_symbols::{NameError, Scope, items_have_one_scope, scope_of};
 use fzn_syntax::Items;
 use fzn_values::Constants;
 use std::alloc::Global;
@@ -21,9 +19,9 @@ use std::alloc::Global;
 pub fn items_have_one_answer()
     ensures { HasOneAnswer }
 {
-    fzn_occurrences::one_answer();
-    fzn_declared::one_first();
-    fzn_posted::one_first();
+    items_have_one_scope();
+    declarations_have_one_first_fault();
+    constraints_have_one_first_fault();
     fzn_model::one_model();
 }
 
@@ -39,7 +37,7 @@ pub fn lower(alloc: Global, items: &Items) -> Result<Model, ModelError>
 fn lower_sized(alloc: Global, items: &Items) -> Result<Model, ModelError>
     requires text { AreOfText items.now }
     requires sized { FindsSize items.now None }
-    ensures { let t = items.now in Lowers (FindsName t ⟫ FindsUnknown t ⟫ FindsDeclaration t ⟫ FindsConstraint t ⟫ FindsSolve t ⟫ FindsEntries t) t result }
+    ensures { Lowers (FindsNameOn items.now) items.now result }
 {
     match scope_of(alloc, items) {
         Ok(scope) => lower_scoped(alloc, &scope, items),
@@ -54,7 +52,7 @@ fn lower_scoped(alloc: Global, scope: &Scope<'_>, items: &Items) -> Result<Model
     requires text { AreOfText items.now }
     requires sized { FindsSize items.now None }
     requires named { FindsName items.now None }
-    ensures { let t = items.now in Lowers (FindsUnknown t ⟫ FindsDeclaration t ⟫ FindsConstraint t ⟫ FindsSolve t ⟫ FindsEntries t) t result }
+    ensures { Lowers (FindsUnknownOn items.now) items.now result }
 {
     check_names(items)?;
     lower_named(alloc, scope, items)
@@ -65,7 +63,7 @@ fn lower_named(alloc: Global, scope: &Scope<'_>, items: &Items) -> Result<Model,
     requires text { AreOfText items.now }
     requires sized { FindsSize items.now None }
     requires named { FindsName items.now None }
-    ensures { let t = items.now in Lowers (FindsDeclaration t ⟫ FindsConstraint t ⟫ FindsSolve t ⟫ FindsEntries t) t result }
+    ensures { Lowers (FindsDeclarationOn items.now) items.now result }
 {
     check_declarations(alloc, scope, items)?;
     lower_typed(alloc, scope, items)
@@ -77,7 +75,7 @@ fn lower_typed(alloc: Global, scope: &Scope<'_>, items: &Items) -> Result<Model,
     requires sized { FindsSize items.now None }
     requires named { FindsName items.now None }
     requires typed { FindsDeclaration items.now None }
-    ensures { let t = items.now in Lowers (FindsConstraint t ⟫ FindsSolve t ⟫ FindsEntries t) t result }
+    ensures { Lowers (FindsConstraintOn items.now) items.now result }
 {
     let values = Constants::new(alloc, scope)?;
     check_valued(alloc, &values, items)?;
@@ -88,8 +86,8 @@ fn lower_typed(alloc: Global, scope: &Scope<'_>, items: &Items) -> Result<Model,
 fn lower_fine(alloc: Global, values: &Constants<'_>, items: &Items) -> Result<Model, ModelError>
     requires same { values.now ≡ items.now.declarations }
     requires text { AreOfText items.now }
-    requires fine { let t = items.now in (FindsConstraint t ⟫ FindsSolve t ⟫ FindsEntries t) None }
-    ensures { let t = items.now in Lowers (FindsConstraint t ⟫ FindsSolve t ⟫ FindsEntries t) t result }
+    requires fine { FindsConstraintOn items.now None }
+    ensures { Lowers (FindsConstraintOn items.now) items.now result }
 {
     match model_of(alloc, values, items) {
         Ok(model) => Ok(model),

@@ -1,14 +1,13 @@
 //! The steps that look for faults.
 ghost use Rattle.std.specs.Prelude.{◌≡◌, ◌<◌, ◌^◌, None};
-ghost use Rattle.fzn_counts.specs.Entries.{entries_of};
+ghost use Rattle.fzn_limits.specs.Entries.{entries_of};
 ghost use Rattle.fzn_lower.specs.Finding.{Finds, ◌⟫◌};
-ghost use Rattle.fzn_lower.specs.Steps.{FindsSize, FindsName, FindsUnknown, FindsDeclaration, FindsConstraint, FindsSolve, FindsEntries};
+ghost use Rattle.fzn_lower.specs.Steps.{FindsSize, FindsName, FindsUnknown, FindsDeclaration, FindsConstraint, FindsSolve, FindsEntries, FindsConstraintOn};
 
 use crate::error::ModelError;
-use fzn_counts::{Counted, argument_entries, count_items, first_unknown_constraint};
-use fzn_declared::{ItemFault, solve_fault};
-use fzn_posted::ConstraintFault;
-use fzn_scope::Scope;
+use fzn_check::{Fault, first_constraint_fault, first_declaration_fault, solve_fault};
+use fzn_limits::{Counted, argument_entries, count_items, first_unknown_constraint};
+use fzn_symbols::Scope;
 use fzn_syntax::Items;
 use fzn_values::Constants;
 use std::alloc::Global;
@@ -45,14 +44,14 @@ pub(crate) fn check_declarations(
     requires { scope.now ≡ items.now.declarations }
     ensures { Finds (FindsDeclaration items.now) result }
 {
-    match fzn_declared::first_fault(alloc, scope)? {
+    match first_declaration_fault(alloc, scope)? {
         None => Ok(()),
-        Some(ItemFault::Wrong { at }) => Err(ModelError::WrongArguments { at }),
-        Some(ItemFault::FloatOrSet { at }) => Err(ModelError::FloatOrSet { at }),
+        Some(Fault::IllTyped { at }) => Err(ModelError::WrongArguments { at }),
+        Some(Fault::FloatOrSet { at }) => Err(ModelError::FloatOrSet { at }),
     }
 }
 
-/// What is looked for once the declarations are right.
+/// What is looked for once the declarations are well-typed.
 pub(crate) fn check_valued(
     alloc: Global,
     values: &Constants<'_>,
@@ -62,7 +61,7 @@ pub(crate) fn check_valued(
     requires sized { FindsSize items.now None }
     requires named { FindsName items.now None }
     requires typed { FindsDeclaration items.now None }
-    ensures { let t = items.now in Finds (FindsConstraint t ⟫ FindsSolve t ⟫ FindsEntries t) result }
+    ensures { Finds (FindsConstraintOn items.now) result }
 {
     check_constraints(alloc, values, items)?;
     check_last(values.scope(), items)
@@ -72,10 +71,10 @@ fn check_constraints(alloc: Global, values: &Constants<'_>, items: &Items) -> Re
     requires { values.now ≡ items.now.declarations }
     ensures { Finds (FindsConstraint items.now) result }
 {
-    match fzn_posted::first_fault(alloc, values, items.constraints.as_slice())? {
+    match first_constraint_fault(alloc, values, items.constraints.as_slice())? {
         None => Ok(()),
-        Some(ConstraintFault::Wrong { at }) => Err(ModelError::WrongArguments { at }),
-        Some(ConstraintFault::FloatOrSet { at }) => Err(ModelError::FloatOrSet { at }),
+        Some(Fault::IllTyped { at }) => Err(ModelError::WrongArguments { at }),
+        Some(Fault::FloatOrSet { at }) => Err(ModelError::FloatOrSet { at }),
     }
 }
 
@@ -94,8 +93,8 @@ fn check_solve(scope: &Scope<'_>, items: &Items) -> Result<(), ModelError>
 {
     match solve_fault(scope, &items.solve) {
         None => Ok(()),
-        Some(ItemFault::Wrong { at }) => Err(ModelError::WrongArguments { at }),
-        Some(ItemFault::FloatOrSet { at }) => Err(ModelError::FloatOrSet { at }),
+        Some(Fault::IllTyped { at }) => Err(ModelError::WrongArguments { at }),
+        Some(Fault::FloatOrSet { at }) => Err(ModelError::FloatOrSet { at }),
     }
 }
 

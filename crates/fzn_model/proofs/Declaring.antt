@@ -16,7 +16,7 @@ use Rattle.fzn_model.specs.declared.error.ResolveError.{ResolveError}
 use Rattle.fzn_model.specs.declared.error.ResolveError.TheVariants.{NotBuilt, Memory}
 use Rattle.fzn_syntax.specs.declared.declaration.Declaration.{Declaration}
 use Rattle.fzn_syntax.specs.declared.declaration.Declaration.TheVariants.{Parameter, Variable, ParameterArray, VariableArray}
-use Rattle.fzn_syntax.specs.declared.declaration.Variable as syntax
+use Rattle.fzn_syntax.specs.declared.declaration.VariableDeclaration as syntax
 
 -- ---- one declaration more behind the others
 
@@ -65,7 +65,7 @@ number_bounded (d ∷ ds) (suc i) =
     omega (arith, number_bounded ds i, length-append (variables_by d) (variables_of (take i ds)), length-append (variables_by d) (variables_of ds))
 
 -- a variable's number is below the count of variables
-pub number_below : (ds : List Declaration) (k : ℕ) (v : syntax.Variable) → slice_get ds k ≡ Some (Variable v) → number_at ds k < length (variables_of ds)
+pub number_below : (ds : List Declaration) (k : ℕ) (v : syntax.VariableDeclaration) → slice_get ds k ≡ Some (Variable v) → number_at ds k < length (variables_of ds)
 number_below [] k v e = absurd cc
 number_below (d ∷ ds) zero v e =
     let is : d ≡ Variable v = cc in

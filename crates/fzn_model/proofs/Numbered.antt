@@ -4,11 +4,11 @@ use Rattle.std.proofs.lemmas.Option.{slice_get_within, get_or_from_slice_get}
 use Rattle.dom_core.specs.declared.var_id.VarId.{VarId}
 use Rattle.fzn_model.specs.Declarations.{number_at}
 use Rattle.fzn_model.specs.Numbers.{AreNumbers, IsNumbered}
-use Rattle.fzn_scope.specs.Names.{name_of, names_of, AreDifferent, IsPlaced, IsUndeclared}
-use Rattle.fzn_scope.proofs.Places.{named_at}
+use Rattle.fzn_symbols.specs.Named.{name_of, names_of, AreDifferent, IsPlaced, IsUndeclared}
+use Rattle.fzn_symbols.proofs.Places.{named_at}
 use Rattle.fzn_syntax.specs.declared.declaration.Declaration.{Declaration}
 use Rattle.fzn_syntax.specs.declared.declaration.Declaration.TheVariants.{Variable}
-use Rattle.fzn_syntax.specs.declared.declaration.Variable as syntax
+use Rattle.fzn_syntax.specs.declared.declaration.VariableDeclaration as syntax
 
 -- ---- which names have a number
 
@@ -21,7 +21,7 @@ module _ (ds es : List Declaration) (n : List ℕ) (k : ℕ) (r : Declaration) (
   placed = is ∙ ap (λ cs. get_or cs k r) all ∙ get_or_from_slice_get ds k p.0 r p.1
 
   -- nor has one that is no variable's
-  pub other_none : AreDifferent (names_of ds) → ((v : syntax.Variable) → r ≡ Variable v → ⊥) → (x : VarId) → IsNumbered ds n x → ⊥
+  pub other_none : AreDifferent (names_of ds) → ((v : syntax.VariableDeclaration) → r ≡ Variable v → ⊥) → (x : VarId) → IsNumbered ds n x → ⊥
   other_none different other x h =
       let same : h.0 ≡ k = different h.0 k n (named_at ds n h.0 (Variable h.1) h.2 h.3) (named_at ds n k p.0 p.1 p.2) in
       let there : slice_get ds k ≡ Some (Variable h.1) = subst (λ j. slice_get ds j ≡ Some (Variable h.1)) same h.2 in
@@ -32,8 +32,8 @@ module _ (ds es : List Declaration) (n : List ℕ) (k : ℕ) (r : Declaration) (
       some_one e = cc
 
   -- a variable's name has the number at its place
-  pub variable_number : (ns : List ℕ) (v : syntax.Variable) → AreNumbers ds ns → r ≡ Variable v
-      → (j : ℕ) × (w : syntax.Variable) × (slice_get ds j ≡ Some (Variable w)) × (w.name.name ≡ n) × (slice_index_or ns k 0 ≡ number_at ds j)
+  pub variable_number : (ns : List ℕ) (v : syntax.VariableDeclaration) → AreNumbers ds ns → r ≡ Variable v
+      → (j : ℕ) × (w : syntax.VariableDeclaration) × (slice_get ds j ≡ Some (Variable w)) × (w.name.name ≡ n) × (slice_index_or ns k 0 ≡ number_at ds j)
   variable_number ns v numbers e =
       let there : p.0 ≡ Variable v = sym placed ∙ e in
       (k, v, p.1 ∙ ap Some there, sym (ap name_of there) ∙ p.2, get_or_from_slice_get ns k (number_at ds k) 0 (numbers.at k (slice_get_within ds k p.0 p.1)))

@@ -20,8 +20,8 @@ use Rattle.fzn_model.specs.declared.error.ResolveError.TheVariants.{NotBuilt, Me
 use Rattle.fzn_syntax.specs.declared.constraint.Constraint.{Constraint}
 use Rattle.fzn_syntax.specs.declared.declaration.Declaration.{Declaration}
 use Rattle.fzn_syntax.specs.declared.expression.Basic.{Basic}
-use Rattle.fzn_syntax.specs.declared.solve.Goal as syntax
-use Rattle.fzn_syntax.specs.declared.solve.Goal.TheVariants as goals
+use Rattle.fzn_syntax.specs.declared.solve.SolveGoal as syntax
+use Rattle.fzn_syntax.specs.declared.solve.SolveGoal.TheVariants as goals
 
 -- ---- bounds
 
@@ -51,7 +51,7 @@ posted_fit ds [] (k ∷ ks) h = absurd h
 posted_fit ds (c ∷ cs) [] h = absurd h
 posted_fit ds (c ∷ cs) (k ∷ ks) h = All-cons (IsFit (length (variables_of ds))) k ks (fit_one ds c k h.0) (posted_fit ds cs ks h.1)
 
-pub asked_fit : (ds : List Declaration) (g : syntax.Goal) (a : model.Goal) → IsAsked ds g a → IsFitGoal (length (variables_of ds)) a
+pub asked_fit : (ds : List Declaration) (g : syntax.SolveGoal) (a : model.Goal) → IsAsked ds g a → IsFitGoal (length (variables_of ds)) a
 asked_fit ds goals.Satisfy asked.Satisfy h = tt
 asked_fit ds goals.Satisfy (asked.Minimize x) h = absurd h
 asked_fit ds (goals.Minimize n) asked.Satisfy h = absurd h

@@ -5,11 +5,11 @@ use Rattle.dom_model.specs.declared.goal.Goal as model
 use Rattle.dom_model.specs.declared.goal.Goal.TheVariants as asked
 use Rattle.dom_model.specs.declared.kind.AnyKind.{AnyKind}
 use Rattle.dom_model.specs.declared.kind.AnyKind.TheVariants.{LinLe}
-use Rattle.fzn_scope.proofs.Places.{named_at}
+use Rattle.fzn_symbols.proofs.Places.{named_at}
 use Rattle.fzn_model.specs.Declarations.{number_at}
 use Rattle.fzn_model.specs.Numbers.{IsNumbered}
 use Rattle.fzn_model.specs.Posted.{IsVar, AreVars, AreVarsOf, AreCoefficients, IsBound, IsLinear, IsSum, IsPosted, ArePosted, IsAsked}
-use Rattle.fzn_scope.specs.Names.{name_of, names_of, AreDifferent}
+use Rattle.fzn_symbols.specs.Named.{name_of, names_of, AreDifferent}
 use Rattle.fzn_syntax.specs.declared.constraint.Constraint.{Constraint}
 use Rattle.fzn_syntax.specs.declared.declaration.Declaration.{Declaration}
 use Rattle.fzn_syntax.specs.declared.expression.Basic.{Basic}
@@ -17,9 +17,9 @@ use Rattle.fzn_syntax.specs.declared.expression.Basic.TheVariants as basics
 use Rattle.fzn_syntax.specs.declared.expression.Expression.{Expression}
 use Rattle.fzn_syntax.specs.declared.expression.Expression.TheVariants as expressions
 use Rattle.fzn_syntax.specs.declared.identifier.Identifier.{Identifier}
-use Rattle.fzn_syntax.specs.declared.solve.Goal as syntax
-use Rattle.fzn_syntax.specs.declared.solve.Goal.TheVariants as goals
-use Rattle.fzn_values.specs.Worth.{IsIntOf, IsListOf, AreInts, AreIntsOf, HasOneInteger, HasOneList}
+use Rattle.fzn_syntax.specs.declared.solve.SolveGoal as syntax
+use Rattle.fzn_syntax.specs.declared.solve.SolveGoal.TheVariants as goals
+use Rattle.fzn_values.specs.Constants.{IsIntOf, IsListOf, AreInts, AreIntsOf, HasOneInteger, HasOneList}
 
 module _ (ds : List Declaration) (different : AreDifferent (names_of ds)) where
   pub one_numbered : (n : List ℕ) (x y : VarId) → IsNumbered ds n x → IsNumbered ds n y → x ≡ y
@@ -44,7 +44,7 @@ module _ (ds : List Declaration) (different : AreDifferent (names_of ds)) where
       let others : xs ≡ ys = one_vars bs xs ys h.1 g.1 in
       cc
 
-  pub one_asked : (g : syntax.Goal) (a b : model.Goal) → IsAsked ds g a → IsAsked ds g b → a ≡ b
+  pub one_asked : (g : syntax.SolveGoal) (a b : model.Goal) → IsAsked ds g a → IsAsked ds g b → a ≡ b
   one_asked goals.Satisfy asked.Satisfy asked.Satisfy h k = refl
   one_asked goals.Satisfy asked.Satisfy (asked.Minimize y) h k = absurd k
   one_asked goals.Satisfy (asked.Minimize x) b h k = absurd h
@@ -78,7 +78,7 @@ module _ (ds : List Declaration) (different : AreDifferent (names_of ds)) where
     pub one_bound : (e : Expression) (y z : ℤ) → IsBound ds e y → IsBound ds e z → y ≡ z
     one_bound e y z h g =
         let same : h.basic ≡ g.basic = cc in
-        integer ds g.basic y z different (subst (λ b. IsIntOf ds b y) same h.worth) g.worth
+        integer ds g.basic y z different (subst (λ b. IsIntOf ds b y) same h.value) g.value
 
     one_linear : (a b c : Expression) (ys zs : List ℤ) (us vs : List VarId) (p q : ℤ) → IsLinear ds a b c ys us p → IsLinear ds a b c zs vs q → LinLe ys us p ≡ LinLe zs vs q
     one_linear a b c ys zs us vs p q h g =

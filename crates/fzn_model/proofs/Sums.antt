@@ -11,7 +11,7 @@ use Rattle.fzn_model.specs.Numbers.{IsNumbered}
 use Rattle.fzn_model.specs.Posted.{IsVar, AreVarsOf, AreFit, AreCoefficients, IsSmallInt, IsBound, IsLinear, IsLinearKind, IsSum, IsPosted, IsAsked}
 use Rattle.fzn_model.specs.declared.error.ResolveError.{ResolveError}
 use Rattle.fzn_model.specs.declared.error.ResolveError.TheVariants.{NotBuilt, Memory}
-use Rattle.fzn_scope.specs.Names.{names_of, AreDifferent}
+use Rattle.fzn_symbols.specs.Named.{names_of, AreDifferent}
 use Rattle.fzn_syntax.specs.declared.constraint.Constraint.{Constraint}
 use Rattle.fzn_syntax.specs.declared.declaration.Declaration.{Declaration}
 use Rattle.fzn_syntax.specs.declared.expression.Basic.{Basic}
@@ -19,8 +19,8 @@ use Rattle.fzn_syntax.specs.declared.expression.Basic.TheVariants as basics
 use Rattle.fzn_syntax.specs.declared.expression.Expression.{Expression}
 use Rattle.fzn_syntax.specs.declared.expression.Expression.TheVariants as expressions
 use Rattle.fzn_syntax.specs.declared.identifier.Identifier.{Identifier}
-use Rattle.fzn_syntax.specs.declared.solve.Goal.TheVariants as goals
-use Rattle.fzn_values.specs.Worth.{IsIntOf, AreIntsOf, HasOneInteger, HasOneList}
+use Rattle.fzn_syntax.specs.declared.solve.SolveGoal.TheVariants as goals
+use Rattle.fzn_values.specs.Constants.{IsIntOf, AreIntsOf, HasOneInteger, HasOneList}
 
 -- ---- coefficients
 
@@ -44,8 +44,8 @@ unasked ds n none (asked.Minimize x) h = none x h
 -- ---- a bound
 
 pub bound_by : (ds : List Declaration) (e : Expression) (b : Basic) (r : Result ℤ ResolveError) → e ≡ expressions.Basic b → Answers (IsSmallInt ds b) r → Answers (IsBound ds e) r
-bound_by ds e b (Ok z) is h = record { basic = b; alone = is; worth = h.0; modest = h.1 }
-bound_by ds e b (Err NotBuilt) is none = λ z g. let same : g.basic ≡ b = cc in none z (subst (λ x. IsIntOf ds x z) same g.worth, g.modest)
+bound_by ds e b (Ok z) is h = record { basic = b; alone = is; value = h.0; modest = h.1 }
+bound_by ds e b (Err NotBuilt) is none = λ z g. let same : g.basic ≡ b = cc in none z (subst (λ x. IsIntOf ds x z) same g.value, g.modest)
 bound_by ds e b (Err Memory) is h = tt
 
 -- ---- the parts of a sum

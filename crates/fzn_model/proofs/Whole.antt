@@ -19,7 +19,7 @@ use Rattle.fzn_model.specs.Resolves.{Resolves, ResolvesOne, IsPostedNext}
 use Rattle.fzn_syntax.specs.declared.constraint.Constraint.{Constraint}
 use Rattle.fzn_syntax.specs.declared.declaration.Declaration.{Declaration}
 use Rattle.fzn_syntax.specs.declared.items.Items.{Items}
-use Rattle.fzn_values.specs.Worth.{HasOneInteger, HasOneList}
+use Rattle.fzn_values.specs.Constants.{HasOneInteger, HasOneList}
 
 abbrev problem : List Variable → List AnyKind → Goal → List Output → Problem
 problem vs ks g os = record { variables = vs; constraints = ks; goal = g; outputs = os }

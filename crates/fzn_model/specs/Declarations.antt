@@ -10,11 +10,11 @@ use Rattle.dom_model.specs.declared.form.Form.TheVariants as forms
 use Rattle.dom_model.specs.declared.output.Output.{Output}
 use Rattle.dom_model.specs.declared.output.Output.TheVariants.{Scalar}
 use Rattle.dom_model.specs.declared.variable.Variable as model
-use Rattle.fzn_scope.specs.Bases.{is_integer}
+use Rattle.fzn_symbols.specs.Bases.{is_integer}
 use Rattle.fzn_syntax.specs.declared.annotation.Annotation.{Annotation}
 use Rattle.fzn_syntax.specs.declared.declaration.Declaration.{Declaration}
 use Rattle.fzn_syntax.specs.declared.declaration.Declaration.TheVariants.{Parameter, Variable, ParameterArray, VariableArray}
-use Rattle.fzn_syntax.specs.declared.declaration.Variable as syntax
+use Rattle.fzn_syntax.specs.declared.declaration.VariableDeclaration as syntax
 use Rattle.fzn_syntax.specs.declared.element.Element.{Element}
 use Rattle.fzn_syntax.specs.declared.element.Element.TheVariants as elements
 use Rattle.fzn_syntax.specs.declared.element.VariableType.{VariableType}
@@ -56,7 +56,7 @@ is_range (types.Plain e) = is_range_element e
 is_range (types.SetOf e) = false
 
 -- the variable is built: its type is a range, it has no initialiser, and its range is of few and small values
-pub record IsBuiltVariable (v : syntax.Variable) : Type 0 where
+pub record IsBuiltVariable (v : syntax.VariableDeclaration) : Type 0 where
   pub range : is_range v.element ≡ true
   pub free : v.value ≡ None
   pub fit : IsFitDeclared (range_of v.element)
@@ -66,11 +66,11 @@ abbrev pub IsRangeOf : VariableType → ℤ × ℤ → Type 0
 IsRangeOf t r = (is_range t ≡ true) × (range_of t ≡ declared.Range r.0 r.1)
 
 -- the variable is built, and its type is the range with these ends
-abbrev pub IsBuiltRange : syntax.Variable → ℤ × ℤ → Type 0
+abbrev pub IsBuiltRange : syntax.VariableDeclaration → ℤ × ℤ → Type 0
 IsBuiltRange v r = IsBuiltVariable v × (range_of v.element ≡ declared.Range r.0 r.1)
 
 -- the variable that is declared
-abbrev pub variable_of : syntax.Variable → model.Variable
+abbrev pub variable_of : syntax.VariableDeclaration → model.Variable
 variable_of v = record { name = v.name.name; form = forms.Int; declared = range_of v.element }
 
 -- the annotation has this name
@@ -78,7 +78,7 @@ abbrev pub is_named : List ℕ → Annotation → Bool
 is_named n a = bytes_eq a.name.name n
 
 -- the variable is marked for printing
-abbrev pub is_marked : syntax.Variable → Bool
+abbrev pub is_marked : syntax.VariableDeclaration → Bool
 is_marked v = list_any (is_named (codes "output_var")) v.annotations
 
 -- ---- declarations

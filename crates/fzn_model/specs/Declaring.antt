@@ -6,7 +6,7 @@ use Rattle.dom_model.specs.declared.goal.Goal.TheVariants.{Satisfy}
 use Rattle.fzn_model.specs.declared.error.ResolveError.{ResolveError}
 use Rattle.fzn_model.specs.declared.error.ResolveError.TheVariants.{NotBuilt, Memory}
 use Rattle.fzn_model.specs.Declarations.{IsBuilt, variables_by, variables_of, marks_by, marks_from}
-use Rattle.fzn_scope.specs.Names.{name_of}
+use Rattle.fzn_symbols.specs.Named.{name_of}
 use Rattle.fzn_syntax.specs.declared.declaration.Declaration.{Declaration}
 
 -- few variables are declared, and all that is declared is built

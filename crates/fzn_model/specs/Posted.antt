@@ -14,9 +14,9 @@ use Rattle.fzn_syntax.specs.declared.expression.Basic.TheVariants as basics
 use Rattle.fzn_syntax.specs.declared.expression.Expression.{Expression}
 use Rattle.fzn_syntax.specs.declared.expression.Expression.TheVariants as expressions
 use Rattle.fzn_syntax.specs.declared.identifier.Identifier.{Identifier}
-use Rattle.fzn_syntax.specs.declared.solve.Goal as syntax
-use Rattle.fzn_syntax.specs.declared.solve.Goal.TheVariants as goals
-use Rattle.fzn_values.specs.Worth.{IsIntOf, IsListOf, AreIntsOf}
+use Rattle.fzn_syntax.specs.declared.solve.SolveGoal as syntax
+use Rattle.fzn_syntax.specs.declared.solve.SolveGoal.TheVariants as goals
+use Rattle.fzn_values.specs.Constants.{IsIntOf, IsListOf, AreIntsOf}
 
 -- the expression is the name of the variable with this number
 abbrev pub IsVar : List Declaration → Basic → VarId → Type 0
@@ -44,7 +44,7 @@ pub record AreCoefficients (ds : List Declaration) (e : Expression) (zs : List �
   pub ints : AreIntsOf ds e zs
   pub fit : AreFit zs
 
--- the literal or name is worth this small integer
+-- the literal or name has this small integer as its value
 abbrev pub IsSmallInt : List Declaration → Basic → ℤ → Type 0
 IsSmallInt ds b z = IsIntOf ds b z × IsModest z
 
@@ -52,7 +52,7 @@ IsSmallInt ds b z = IsIntOf ds b z × IsModest z
 pub record IsBound (ds : List Declaration) (e : Expression) (z : ℤ) : Type 0 where
   pub basic : Basic
   pub alone : e ≡ expressions.Basic basic
-  pub worth : IsIntOf ds basic z
+  pub value : IsIntOf ds basic z
   pub modest : IsModest z
 
 -- as many coefficients as variables, and a bound
@@ -86,7 +86,7 @@ ArePosted ds (c ∷ cs) [] = ⊥
 ArePosted ds (c ∷ cs) (k ∷ ks) = IsPosted ds c k × ArePosted ds cs ks
 
 -- the goal is what the item asks; the greatest value is not built
-abbrev pub IsAsked : List Declaration → syntax.Goal → model.Goal → Type 0
+abbrev pub IsAsked : List Declaration → syntax.SolveGoal → model.Goal → Type 0
 IsAsked ds goals.Satisfy asked.Satisfy = Unit {0}
 IsAsked ds goals.Satisfy (asked.Minimize x) = ⊥
 IsAsked ds (goals.Minimize n) asked.Satisfy = ⊥

@@ -7,7 +7,7 @@ use Rattle.fzn_model.specs.declared.error.ResolveError.TheVariants.{NotBuilt, Me
 use Rattle.fzn_model.specs.Declarations.{variables_of, marks_from}
 use Rattle.fzn_model.specs.Declaring.{AreBuilt}
 use Rattle.fzn_model.specs.Posted.{ArePosted, IsAsked}
-use Rattle.fzn_scope.specs.Names.{names_of, AreDifferent}
+use Rattle.fzn_symbols.specs.Named.{names_of, AreDifferent}
 use Rattle.fzn_syntax.specs.declared.constraint.Constraint.{Constraint}
 use Rattle.fzn_syntax.specs.declared.declaration.Declaration.{Declaration}
 use Rattle.fzn_syntax.specs.declared.items.Items.{Items}

@@ -6,7 +6,7 @@ ghost use Rattle.fzn_model.specs.Numbers.{AreNumbers, IsNumbered};
 
 use crate::variables::variables_by;
 use dom_core::VarId;
-use fzn_scope::Scope;
+use fzn_symbols::Scope;
 use fzn_syntax::Declaration;
 use std::alloc::{AllocError, Global};
 

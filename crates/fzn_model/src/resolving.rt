@@ -11,8 +11,8 @@ use crate::error::ResolveError;
 use crate::numbers::{numbers_of, variable_named};
 use crate::variables::declare_all;
 use dom_model::{Goal, Model, ModelBuilder};
-use fzn_scope::Scope;
-use fzn_syntax::{Goal as Asked, Items};
+use fzn_symbols::Scope;
+use fzn_syntax::{Items, SolveGoal};
 use fzn_values::Constants;
 use std::alloc::Global;
 
@@ -45,16 +45,16 @@ pub fn model_of(alloc: Global, values: &Constants<'_>, items: &Items) -> Result<
     Ok(builder.finish()?)
 }
 
-fn goal_of(scope: &Scope<'_>, numbers: &[u32], asked: &Asked) -> Result<Goal, ResolveError>
+fn goal_of(scope: &Scope<'_>, numbers: &[u32], asked: &SolveGoal) -> Result<Goal, ResolveError>
     requires { AreNumbers scope.now numbers.now }
     ensures { Answers (IsAsked scope.now asked.now) result }
 {
     match asked {
-        Asked::Satisfy => Ok(Goal::Satisfy),
-        Asked::Minimize(name) => match variable_named(scope, numbers, name.name.as_bytes()) {
+        SolveGoal::Satisfy => Ok(Goal::Satisfy),
+        SolveGoal::Minimize(name) => match variable_named(scope, numbers, name.name.as_bytes()) {
             None => Err(ResolveError::NotBuilt),
             Some(var) => Ok(Goal::Minimize(var)),
         },
-        Asked::Maximize(_) => Err(ResolveError::NotBuilt),
+        SolveGoal::Maximize(_) => Err(ResolveError::NotBuilt),
     }
 }

@@ -15,7 +15,7 @@ use crate::error::ResolveError;
 use crate::marks::has_named;
 use dom_core::NoMemory;
 use dom_model::{Declared, Form, ModelBuilder, Output};
-use fzn_syntax::{Bounds, Declaration, Element, Number, Variable, VariableType};
+use fzn_syntax::{Bounds, Declaration, Element, Number, VariableDeclaration, VariableType};
 
 /// Declares the variables of all declarations, in their order.
 pub(crate) fn declare_all(
@@ -78,7 +78,7 @@ fn declare_one(builder: &mut ModelBuilder, declaration: &Declaration) -> Result<
     }
 }
 
-fn declare_variable(builder: &mut ModelBuilder, variable: &Variable) -> Result<(), ResolveError>
+fn declare_variable(builder: &mut ModelBuilder, variable: &VariableDeclaration) -> Result<(), ResolveError>
     requires ascii { IsAscii variable.now.name.name }
     requires room { length builder.old.variables < 100000 }
     ensures { IsDeclaredNext builder.old (declarations.Variable variable.now) builder.new result }
@@ -95,7 +95,7 @@ fn declare_variable(builder: &mut ModelBuilder, variable: &Variable) -> Result<(
 // Adds a variable with this range, and its mark.
 fn add_variable(
     builder: &mut ModelBuilder,
-    variable: &Variable,
+    variable: &VariableDeclaration,
     lo: i64,
     hi: i64,
 ) -> Result<(), NoMemory>
@@ -124,7 +124,7 @@ fn text_of(bytes: &[u8]) -> &str
 }
 
 // The range of a variable that is built.
-fn built_range(variable: &Variable) -> Option<(i64, i64)>
+fn built_range(variable: &VariableDeclaration) -> Option<(i64, i64)>
     ensures { MatchOption result (IsBuiltVariable variable.now → ⊥) (IsBuiltRange variable.now) }
 {
     if variable.value.is_some() {

@@ -9,9 +9,9 @@ use Rattle.fzn_lex.specs.Tokens.{Spells, IsSmall}
 use Rattle.fzn_lex.specs.Cutting.{Cutting, bytes_of}
 use Rattle.fzn_lex.proofs.TightPieces.{NumberStops, AreTight, blank_piece}
 use Rattle.fzn_lex.specs.Kept.{IsKept}
-use Rattle.fzn_spelling.specs.Spelling.{spelling_of}
-use Rattle.fzn_spelling.proofs.Spelled.{written, TokenStops, tight_token, tight_blank, stops_at, stops_at_dots}
-use Rattle.fzn_syntax.specs.Words.{code, kind_by}
+use Rattle.fzn_print.specs.Spelling.{spelling_of}
+use Rattle.fzn_print.proofs.Spelled.{written, TokenStops, tight_token, tight_blank, stops_at, stops_at_dots}
+use Rattle.fzn_words.specs.Words.{code, terminal_by}
 use Rattle.fzn_syntax.specs.declared.number.Number.{Number}
 use Rattle.fzn_syntax.specs.declared.number.Number.TheVariants as numbers
 use Rattle.fzn_syntax.specs.declared.number.Bounds.{Bounds}

@@ -6,9 +6,9 @@ use Rattle.fzn_lex.specs.declared.words.What.TheVariants as what
 use Rattle.fzn_lex.specs.declared.tokens.Token.{Token}
 use Rattle.fzn_lex.specs.Cutting.{Cutting, bytes_of, tokens_of}
 use Rattle.fzn_lex.proofs.TightPieces.{Spelling, words_of, read_word, words_read}
-use Rattle.fzn_spelling.specs.Spelling.{spelling_of}
+use Rattle.fzn_print.specs.Spelling.{spelling_of}
 use Rattle.reading.specs.Language.{◌⨾◌, Nothing, One, Each, MaybeListed}
-use Rattle.fzn_syntax.specs.declared.word.Word.{Word}
+use Rattle.fzn_words.specs.declared.word.Word.{Word}
 use Rattle.fzn_syntax.specs.declared.identifier.Identifier.{Identifier}
 use Rattle.fzn_syntax.specs.declared.number.Number.{Number}
 use Rattle.fzn_syntax.specs.declared.number.Number.TheVariants as numbers
@@ -19,7 +19,7 @@ use Rattle.fzn_syntax.specs.declared.element.ParameterType.{ParameterType}
 use Rattle.fzn_syntax.specs.declared.element.ParameterType.TheVariants as parameters
 use Rattle.fzn_syntax.specs.declared.element.VariableType.{VariableType}
 use Rattle.fzn_syntax.specs.declared.element.VariableType.TheVariants as variables
-use Rattle.fzn_syntax.specs.Words.{code, kind_by, kind, kept_text, word_of, words, is}
+use Rattle.fzn_words.specs.Words.{code, terminal_by, terminal, kept_text, word_of, words, is}
 use Rattle.fzn_syntax.specs.Grammar.{number_of, IsName, IsNumber, IsBounds, IsSet, IsElement, IsParameterType, IsDomain, IsVariableType}
 use Rattle.fzn_print.proofs.Codes.{Coded, coded_is, bool_code, comma_code, dot_dot_code, float_word_code, int_word_code, left_brace_code, of_code, right_brace_code, set_code, var_code}
 use Rattle.fzn_print.specs.Marks.{Mark, token, space, newline, symbol, name, text_of, others, listed}
@@ -95,7 +95,7 @@ printed_words ms = alike_words (text_of ms) (tokens_of 0 (pieces_of ms)) ms (rw 
 
 -- ---- single words
 
-pub sign_back : (n : ℕ) (w : What) (text : List ℕ) (ws : List Word) → code (kind_by w (kept_text w text)) ≡ n → AreAlike ws (token w text ∷ []) → Coded n ws
+pub sign_back : (n : ℕ) (w : What) (text : List ℕ) (ws : List Word) → code (terminal_by w (kept_text w text)) ≡ n → AreAlike ws (token w text ∷ []) → Coded n ws
 sign_back n w text ws e (v, vs, parts, is, same, none) = (v, coded_is n v (rw (is, same) e), parts ∙ ap (λ (l : List Word). v ∷ l) none)
 
 pub number_back : (n : Number) (ws : List Word) → AreAlike ws (number_marks n) → IsNumber n ws
@@ -112,26 +112,26 @@ pub parts_back : (A B : List Word → Type 0) (ms ns : List Mark) (ws : List Wor
 parts_back A B ms ns ws first then_rest h =
     let p = alike_parts ws ms ns h in (p.front, p.back, p.parts, first p.front p.front_is, then_rest p.back p.back_is)
 
-pub dots_kind : code (kind_by what.DotDot []) ≡ dot_dot_code
-unfolding kind_by
-dots_kind = refl
+pub dots_terminal : code (terminal_by what.DotDot []) ≡ dot_dot_code
+unfolding terminal_by
+dots_terminal = refl
 
-pub comma_kind : code (kind_by what.Comma []) ≡ comma_code
-unfolding kind_by
-comma_kind = refl
+pub comma_terminal : code (terminal_by what.Comma []) ≡ comma_code
+unfolding terminal_by
+comma_terminal = refl
 
-open_brace_kind : code (kind_by what.LeftBrace []) ≡ left_brace_code
-unfolding kind_by
-open_brace_kind = refl
+open_brace_terminal : code (terminal_by what.LeftBrace []) ≡ left_brace_code
+unfolding terminal_by
+open_brace_terminal = refl
 
-close_brace_kind : code (kind_by what.RightBrace []) ≡ right_brace_code
-unfolding kind_by
-close_brace_kind = refl
+close_brace_terminal : code (terminal_by what.RightBrace []) ≡ right_brace_code
+unfolding terminal_by
+close_brace_terminal = refl
 
 pub bounds_back : (b : Bounds) (ws : List Word) → AreAlike ws (bounds_marks b) → IsBounds b ws
 bounds_back b ws h =
     parts_back (IsNumber b.lower) (Coded dot_dot_code ⨾ IsNumber b.upper) (number_marks b.lower) (symbol what.DotDot ∷ number_marks b.upper) ws (number_back b.lower)
-    (λ us g. cons_back (Coded dot_dot_code) (IsNumber b.upper) what.DotDot [] (number_marks b.upper) us (λ vs k. sign_back dot_dot_code what.DotDot [] vs dots_kind k) (number_back b.upper) g) h
+    (λ us g. cons_back (Coded dot_dot_code) (IsNumber b.upper) what.DotDot [] (number_marks b.upper) us (λ vs k. sign_back dot_dot_code what.DotDot [] vs dots_terminal k) (number_back b.upper) g) h
 
 -- lists with commas
 module _ {X : Type 0} (f : X → List Mark) (D : X → List Word → Type 0) (back : (x : X) (ws : List Word) → AreAlike ws (f x) → D x ws) where
@@ -142,7 +142,7 @@ module _ {X : Type 0} (f : X → List Mark) (D : X → List Word → Type 0) (ba
         v ∷ p.front,
         p.back,
         parts ∙ ap (λ (l : List Word). v ∷ l) p.parts,
-        (v ∷ [], p.front, refl, sign_back comma_code what.Comma [] (v ∷ []) comma_kind (v, [], refl, is, same, refl), back x p.front p.front_is),
+        (v ∷ [], p.front, refl, sign_back comma_code what.Comma [] (v ∷ []) comma_terminal (v, [], refl, is, same, refl), back x p.front p.front_is),
         others_back xs p.back p.back_is,
       )
 
@@ -154,66 +154,66 @@ module _ {X : Type 0} (f : X → List Mark) (D : X → List Word → Type 0) (ba
 pub set_back : (ns : List Number) (ws : List Word) → AreAlike ws (set_marks ns) → IsSet ns ws
 set_back ns ws h =
     cons_back (Coded left_brace_code) (MaybeListed (Coded comma_code) IsNumber ns ⨾ Coded right_brace_code) what.LeftBrace [] (listed number_marks ns ++ symbol what.RightBrace ∷ []) ws
-    (λ us k. sign_back left_brace_code what.LeftBrace [] us open_brace_kind k)
+    (λ us k. sign_back left_brace_code what.LeftBrace [] us open_brace_terminal k)
     (λ us g. parts_back (MaybeListed (Coded comma_code) IsNumber ns) (Coded right_brace_code) (listed number_marks ns) (symbol what.RightBrace ∷ []) us
-    (listed_back number_marks IsNumber number_back ns) (λ vs k. sign_back right_brace_code what.RightBrace [] vs close_brace_kind k) g) h
+    (listed_back number_marks IsNumber number_back ns) (λ vs k. sign_back right_brace_code what.RightBrace [] vs close_brace_terminal k) g) h
 
 -- ---- types
 
 -- one reserved word
-pub word_back : (n : ℕ) (text : List ℕ) (ws : List Word) → code (kind_by what.Name text) ≡ n → AreAlike ws (name text ∷ []) → Coded n ws
+pub word_back : (n : ℕ) (text : List ℕ) (ws : List Word) → code (terminal_by what.Name text) ≡ n → AreAlike ws (name text ∷ []) → Coded n ws
 word_back n text ws e h = sign_back n what.Name text ws e h
 
-int_kind : code (kind_by what.Name (codes "int")) ≡ int_word_code
-unfolding kind_by
-int_kind = refl
+int_terminal : code (terminal_by what.Name (codes "int")) ≡ int_word_code
+unfolding terminal_by
+int_terminal = refl
 
-float_kind : code (kind_by what.Name (codes "float")) ≡ float_word_code
-unfolding kind_by
-float_kind = refl
+float_terminal : code (terminal_by what.Name (codes "float")) ≡ float_word_code
+unfolding terminal_by
+float_terminal = refl
 
-bool_kind : code (kind_by what.Name (codes "bool")) ≡ bool_code
-unfolding kind_by
-bool_kind = refl
+bool_terminal : code (terminal_by what.Name (codes "bool")) ≡ bool_code
+unfolding terminal_by
+bool_terminal = refl
 
-set_kind : code (kind_by what.Name (codes "set")) ≡ set_code
-unfolding kind_by
-set_kind = refl
+set_terminal : code (terminal_by what.Name (codes "set")) ≡ set_code
+unfolding terminal_by
+set_terminal = refl
 
-pub of_kind : code (kind_by what.Name (codes "of")) ≡ of_code
-unfolding kind_by
-of_kind = refl
+pub of_terminal : code (terminal_by what.Name (codes "of")) ≡ of_code
+unfolding terminal_by
+of_terminal = refl
 
-var_kind : code (kind_by what.Name (codes "var")) ≡ var_code
-unfolding kind_by
-var_kind = refl
+var_terminal : code (terminal_by what.Name (codes "var")) ≡ var_code
+unfolding terminal_by
+var_terminal = refl
 
 pub element_back : (e : Element) (ws : List Word) → AreAlike ws (element_marks e) → IsElement e ws
-element_back elements.Int ws h = word_back int_word_code (codes "int") ws int_kind h
-element_back elements.Float ws h = word_back float_word_code (codes "float") ws float_kind h
+element_back elements.Int ws h = word_back int_word_code (codes "int") ws int_terminal h
+element_back elements.Float ws h = word_back float_word_code (codes "float") ws float_terminal h
 element_back (elements.Range b) ws h = bounds_back b ws h
 element_back (elements.Set ns) ws h = set_back ns ws h
 
 -- a reserved word and a space before the rest
-pub spaced_back : (n : ℕ) (text : List ℕ) (B : List Word → Type 0) (ms : List Mark) (ws : List Word) → code (kind_by what.Name text) ≡ n → ((us : List Word) → AreAlike us ms → B us)
+pub spaced_back : (n : ℕ) (text : List ℕ) (B : List Word → Type 0) (ms : List Mark) (ws : List Word) → code (terminal_by what.Name text) ≡ n → ((us : List Word) → AreAlike us ms → B us)
     → AreAlike ws (name text ∷ space ∷ ms) → (Coded n ⨾ B) ws
 spaced_back n text B ms ws e then_rest h = cons_back (Coded n) B what.Name text (space ∷ ms) ws (λ us g. word_back n text us e g) then_rest h
 
 set_of_back : (e : Element) (ws : List Word) → AreAlike ws (set_of_marks e) → (Coded set_code ⨾ Coded of_code ⨾ IsElement e) ws
 set_of_back e ws h =
-    spaced_back set_code (codes "set") (Coded of_code ⨾ IsElement e) (name (codes "of") ∷ space ∷ element_marks e) ws set_kind
-    (λ us g. spaced_back of_code (codes "of") (IsElement e) (element_marks e) us of_kind (element_back e) g) h
+    spaced_back set_code (codes "set") (Coded of_code ⨾ IsElement e) (name (codes "of") ∷ space ∷ element_marks e) ws set_terminal
+    (λ us g. spaced_back of_code (codes "of") (IsElement e) (element_marks e) us of_terminal (element_back e) g) h
 
 pub parameter_type_back : (t : ParameterType) (ws : List Word) → AreAlike ws (parameter_type_marks t) → IsParameterType t ws
-parameter_type_back parameters.Bool ws h = word_back bool_code (codes "bool") ws bool_kind h
-parameter_type_back parameters.Int ws h = word_back int_word_code (codes "int") ws int_kind h
-parameter_type_back parameters.Float ws h = word_back float_word_code (codes "float") ws float_kind h
+parameter_type_back parameters.Bool ws h = word_back bool_code (codes "bool") ws bool_terminal h
+parameter_type_back parameters.Int ws h = word_back int_word_code (codes "int") ws int_terminal h
+parameter_type_back parameters.Float ws h = word_back float_word_code (codes "float") ws float_terminal h
 parameter_type_back (parameters.SetOf e) ws h = set_of_back e ws h
 
 domain_back : (t : VariableType) (ws : List Word) → AreAlike ws (domain_marks t) → IsDomain t ws
-domain_back variables.Bool ws h = word_back bool_code (codes "bool") ws bool_kind h
+domain_back variables.Bool ws h = word_back bool_code (codes "bool") ws bool_terminal h
 domain_back (variables.Plain e) ws h = element_back e ws h
 domain_back (variables.SetOf e) ws h = set_of_back e ws h
 
 pub variable_type_back : (t : VariableType) (ws : List Word) → AreAlike ws (variable_type_marks t) → IsVariableType t ws
-variable_type_back t ws h = spaced_back var_code (codes "var") (IsDomain t) (domain_marks t) ws var_kind (domain_back t) h
+variable_type_back t ws h = spaced_back var_code (codes "var") (IsDomain t) (domain_marks t) ws var_terminal (domain_back t) h

@@ -3,8 +3,8 @@ use Rattle.std.specs.Prelude.{◌≡◌, ℕ, Bool, ◌==◌, List, Option, Some
 use Rattle.std.proofs.Common.{refl, ap}
 use Rattle.std.proofs.lemmas.Bool.{eq-eqb}
 use Rattle.reading.specs.Language.{One}
-use Rattle.fzn_syntax.specs.declared.word.Word.{Word}
-use Rattle.fzn_syntax.specs.Words.{code, kind}
+use Rattle.fzn_words.specs.declared.word.Word.{Word}
+use Rattle.fzn_words.specs.Words.{code, terminal}
 
 abbrev pub name_code : ℕ
 name_code = 0
@@ -101,11 +101,11 @@ var_code = 30
 
 -- a word of this number is worth nothing more
 abbrev pub coded : ℕ → Word → Option (Unit {0})
-coded n w = if code (kind w) == n then Some tt else None
+coded n w = if code (terminal w) == n then Some tt else None
 
 -- one word of this number
 abbrev pub Coded : ℕ → List Word → Type 0
 Coded n = One (coded n) tt
 
-pub coded_is : (n : ℕ) (v : Word) → code (kind v) ≡ n → coded n v ≡ Some tt
-coded_is n v e = rw (eq-eqb (code (kind v)) n e) refl
+pub coded_is : (n : ℕ) (v : Word) → code (terminal v) ≡ n → coded n v ≡ Some tt
+coded_is n v e = rw (eq-eqb (code (terminal v)) n e) refl

@@ -8,17 +8,17 @@ use Rattle.std.proofs.lemmas.List.{length-append, take_at, drop_at, append-nil}
 use Rattle.fzn_lex.specs.declared.words.What.{What}
 use Rattle.fzn_lex.specs.declared.words.What.TheVariants as what
 use Rattle.fzn_lex.proofs.TightPieces.{NumberStops}
-use Rattle.fzn_spelling.specs.Spelling.{spelling_of}
-use Rattle.fzn_spelling.proofs.Spelled.{TokenStops}
+use Rattle.fzn_print.specs.Spelling.{spelling_of}
+use Rattle.fzn_print.proofs.Spelled.{TokenStops}
 use Rattle.reading.specs.Language.{◌⨾◌, Nothing, One, Each, MaybeListed}
-use Rattle.fzn_syntax.specs.declared.word.Word.{Word}
+use Rattle.fzn_words.specs.declared.word.Word.{Word}
 use Rattle.fzn_syntax.specs.declared.identifier.Identifier.{Identifier}
 use Rattle.fzn_syntax.specs.declared.number.Number.{Number}
 use Rattle.fzn_syntax.specs.declared.number.Number.TheVariants as numbers
 use Rattle.fzn_syntax.specs.declared.number.Bounds.{Bounds}
 use Rattle.fzn_syntax.specs.declared.expression.Basic.{Basic}
 use Rattle.fzn_syntax.specs.declared.expression.Basic.TheVariants as basics
-use Rattle.fzn_syntax.specs.Words.{code, kind_by, kind, kept_text}
+use Rattle.fzn_words.specs.Words.{code, terminal_by, terminal, kept_text}
 use Rattle.fzn_syntax.specs.Grammar.{number_of, number_worth, name_worth, IsName, IsNumber, IsBounds, IsSet, IsBasic}
 use Rattle.fzn_syntax.specs.Arguments.{Argument, basic, text, call, list, Inside, empty, filled, Others, no_others, next, IsArguments}
 use Rattle.fzn_syntax.specs.Balance.{Balanced, IsBody}
@@ -39,22 +39,22 @@ coded_code : (b : Bool) → ◌≡◌ {A = Option (Unit {0})} (cond b (Some tt) 
 coded_code true e = refl
 coded_code false e = absurd cc
 
-pub word_ends : (w : Word) → IsKeptWord w → code (kind w) ≢ colon_code → Ends (w ∷ [])
+pub word_ends : (w : Word) → IsKeptWord w → code (terminal w) ≢ colon_code → Ends (w ∷ [])
 word_ends w good other rest stop = (good.0, any_stops w.what w.text rest other stop, tt)
 
 coded_ends : (n : ℕ) (ws : List Word) → n ≢ colon_code → Coded n ws → AreKept ws → Ends ws
 coded_ends n ws other (s, worth, e) k =
-    let is : code (kind s) ≡ n = eqb-true (code (kind s)) n (coded_code (code (kind s) == n) worth) in
+    let is : code (terminal s) ≡ n = eqb-true (code (terminal s)) n (coded_code (code (terminal s) == n) worth) in
     subst Ends (sym e) (word_ends s (subst AreKept e k).0 (λ d. other (sym is ∙ d)))
 
 -- a symbol ends what stands before it
 coded_stops : (n : ℕ) (ws : List Word) (rest : List ℕ) → 4 ≤ n → n ≤ 15 → Coded n ws → NumberStops (text_of (flat_marks ws) ++ rest)
 coded_stops n ws rest low high (s, worth, e) =
-    let is : code (kind s) ≡ n = eqb-true (code (kind s)) n (coded_code (code (kind s) == n) worth) in
+    let is : code (terminal s) ≡ n = eqb-true (code (terminal s)) n (coded_code (code (terminal s) == n) worth) in
     rw e (rw (append-nil (spelling_of s.what s.text)) (symbol_stops s.what s.text rest (omega arith) (omega arith)))
 
-number_code : (w : What) (t : List ℕ) (n : Number) → number_of w t ≡ Some n → code (kind_by w t) ≢ colon_code
-unfolding kind_by
+number_code : (w : What) (t : List ℕ) (n : Number) → number_of w t ≡ Some n → code (terminal_by w t) ≢ colon_code
+unfolding terminal_by
 number_code (what.Int z) t n e = λ d. omega arith
 number_code what.Float t n e = λ d. omega arith
 number_code _ t n e = absurd cc
@@ -64,7 +64,7 @@ number_ends n ws (s, worth, e) k = subst Ends (sym e) (word_ends s (subst AreKep
 
 name_ends : (n : Identifier) (ws : List Word) → IsName n ws → AreKept ws → Ends ws
 name_ends n ws (s, worth, e) k =
-    let is : code (kind s) ≡ name_code = eqb-true (code (kind s)) name_code (cond_some (code (kind s) == name_code) (record { name = s.text; at = s.at }) n worth).0 in
+    let is : code (terminal s) ≡ name_code = eqb-true (code (terminal s)) name_code (cond_some (code (terminal s) == name_code) (record { name = s.text; at = s.at }) n worth).0 in
     subst Ends (sym e) (word_ends s (subst AreKept e k).0 (λ d. absurd (let z : name_code ≡ colon_code = sym is ∙ d in omega arith)))
 
 -- two parts, the second of which ends what stands before it
@@ -85,7 +85,7 @@ free_ends ws h rest stop = h rest
 
 coded_free : (n : ℕ) (ws : List Word) → 4 ≤ n → n ≤ 15 → n ≢ colon_code → Coded n ws → AreKept ws → IsFree ws
 coded_free n ws low high other (s, worth, e) k =
-    let is : code (kind s) ≡ n = eqb-true (code (kind s)) n (coded_code (code (kind s) == n) worth) in
+    let is : code (terminal s) ≡ n = eqb-true (code (terminal s)) n (coded_code (code (terminal s) == n) worth) in
     subst IsFree (sym e) (λ rest. ((subst AreKept e k).0.0, symbol_free s.what s.text rest (omega arith) (omega arith) (λ d. other (sym is ∙ d)), tt))
 
 join_free : (a b : List Word) → IsFree a → Ends b → Ends (a ++ b)
@@ -227,8 +227,8 @@ pub record BodyParts (ws : List Word) : Type 0 where
   pub inner : List Word
   pub last : Word
   pub parts : ws ≡ first ∷ (inner ++ last ∷ [])
-  pub first_is : code (kind first) ≡ left_paren_code
-  pub last_is : code (kind last) ≡ right_paren_code
+  pub first_is : code (terminal first) ≡ left_paren_code
+  pub last_is : code (terminal last) ≡ right_paren_code
 
 pub body_parts : (ws : List Word) → IsBody ws ws → BodyParts ws
 body_parts ws (e, (o, r, e', (s, ws_is, es), (i, c, e'', h, (t, wt, et)))) = record {
@@ -236,14 +236,14 @@ body_parts ws (e, (o, r, e', (s, ws_is, es), (i, c, e'', h, (t, wt, et)))) = rec
   inner = i;
   last = t;
   parts = e' ∙ ap (λ (l : List Word). l ++ r) es ∙ ap (λ (l : List Word). s ∷ l) (e'' ∙ ap (λ (l : List Word). i ++ l) et);
-  first_is = eqb-true (code (kind s)) left_paren_code (coded_code (code (kind s) == left_paren_code) ws_is);
-  last_is = eqb-true (code (kind t)) right_paren_code (coded_code (code (kind t) == right_paren_code) wt);
+  first_is = eqb-true (code (terminal s)) left_paren_code (coded_code (code (terminal s) == left_paren_code) ws_is);
+  last_is = eqb-true (code (terminal t)) right_paren_code (coded_code (code (terminal t) == right_paren_code) wt);
 }
 
-free_word : (w : Word) → IsKeptWord w → 4 ≤ code (kind w) → code (kind w) ≤ 15 → code (kind w) ≢ colon_code → IsFree (w ∷ [])
+free_word : (w : Word) → IsKeptWord w → 4 ≤ code (terminal w) → code (terminal w) ≤ 15 → code (terminal w) ≢ colon_code → IsFree (w ∷ [])
 free_word w good low high other rest = (good.0, symbol_free w.what w.text rest low high other, tt)
 
-body_apart_at : (s : Word) (i : List Word) (t : Word) (rest : List ℕ) → code (kind s) ≡ left_paren_code → code (kind t) ≡ right_paren_code → AreKept (s ∷ (i ++ t ∷ []))
+body_apart_at : (s : Word) (i : List Word) (t : Word) (rest : List ℕ) → code (terminal s) ≡ left_paren_code → code (terminal t) ≡ right_paren_code → AreKept (s ∷ (i ++ t ∷ []))
     → AreApart (flat_marks (s ∷ []) ++ (spaced_marks i ++ flat_marks (t ∷ []))) rest
 body_apart_at s i t rest first last (good, k) =
     let p = kept_parts i (t ∷ []) k in

@@ -9,21 +9,21 @@ use Rattle.reading.specs.Language.{◌⨾◌, Nothing, One, Maybe, Each, MaybeLi
 use Rattle.fzn_syntax.specs.declared.identifier.Identifier.{Identifier}
 use Rattle.fzn_syntax.specs.declared.expression.Expression.{Expression}
 use Rattle.fzn_syntax.specs.declared.declaration.IndexRange.{IndexRange}
-use Rattle.fzn_syntax.specs.declared.word.Word.{Word}
+use Rattle.fzn_words.specs.declared.word.Word.{Word}
 use Rattle.fzn_syntax.specs.declared.annotation.Annotation.{Annotation}
 use Rattle.fzn_syntax.specs.declared.predicate.Predicate.{Predicate}
 use Rattle.fzn_syntax.specs.declared.declaration.Parameter.{Parameter}
-use Rattle.fzn_syntax.specs.declared.declaration.Variable.{Variable}
+use Rattle.fzn_syntax.specs.declared.declaration.VariableDeclaration.{VariableDeclaration}
 use Rattle.fzn_syntax.specs.declared.declaration.ParameterArray.{ParameterArray}
 use Rattle.fzn_syntax.specs.declared.declaration.VariableArray.{VariableArray}
 use Rattle.fzn_syntax.specs.declared.declaration.Declaration.{Declaration}
 use Rattle.fzn_syntax.specs.declared.declaration.Declaration.TheVariants as declarations
 use Rattle.fzn_syntax.specs.declared.constraint.Constraint.{Constraint}
-use Rattle.fzn_syntax.specs.declared.solve.Goal.{Goal}
-use Rattle.fzn_syntax.specs.declared.solve.Goal.TheVariants as goals
+use Rattle.fzn_syntax.specs.declared.solve.SolveGoal.{SolveGoal}
+use Rattle.fzn_syntax.specs.declared.solve.SolveGoal.TheVariants as goals
 use Rattle.fzn_syntax.specs.declared.solve.Solve.{Solve}
 use Rattle.fzn_syntax.specs.declared.items.Items.{Items}
-use Rattle.fzn_syntax.specs.Words.{code, kind_by, kind, kept_text}
+use Rattle.fzn_words.specs.Words.{code, terminal_by, terminal, kept_text}
 use Rattle.fzn_syntax.specs.Grammar.{int_worth, IsName, IsInt, IsExpression, IsParameterType, IsVariableType}
 use Rattle.fzn_syntax.specs.Arguments.{IsArguments}
 use Rattle.fzn_syntax.specs.Balance.{IsBody}
@@ -34,8 +34,8 @@ use Rattle.fzn_print.specs.Aside.{name_aside, expression_aside, word_aside, word
 use Rattle.fzn_print.proofs.Texts.{each-append}
 use Rattle.fzn_print.proofs.Codes.{Coded, double_colon_code, semicolon_code, colon_code, equal_code, predicate_code, array_code, left_bracket_code, right_bracket_code, dot_dot_code, of_code, constraint_code, left_paren_code, right_paren_code, satisfy_code, minimize_code, maximize_code, solve_code}
 use Rattle.fzn_syntax.proofs.Spelled.{IsSpelledName, IsSpelledExpression, AreKept, kept_parts}
-use Rattle.fzn_print.proofs.Back.{AreAlike, AlikeParts, alike_parts, sign_back, parameter_type_back, variable_type_back, dots_kind, of_kind}
-use Rattle.fzn_print.proofs.Placed.{Again, name_again, listed_again, expression_again, open_bracket_kind, close_bracket_kind}
+use Rattle.fzn_print.proofs.Back.{AreAlike, AlikeParts, alike_parts, sign_back, parameter_type_back, variable_type_back, dots_terminal, of_terminal}
+use Rattle.fzn_print.proofs.Placed.{Again, name_again, listed_again, expression_again, open_bracket_terminal, close_bracket_terminal}
 use Rattle.fzn_print.proofs.SameWords.{AreSame, flat_same, arguments_same, body_same}
 use Rattle.fzn_print.proofs.FlatApart.{BodyParts, body_parts, body_shape}
 use Rattle.fzn_syntax.proofs.SpelledItems.{IsSpelledArguments, IsSpelledAnnotation, AreSpelledAnnotations, IsSpelledPredicate, IsSpelledParameter, IsSpelledValue, IsSpelledVariable, IsSpelledRange, IsSpelledParameterArray, IsSpelledVariableArray, IsSpelledDeclaration, IsSpelledConstraint, IsSpelledGoal, IsSpelledSolve, IsSpelledItems}
@@ -49,7 +49,7 @@ record Sign (n : ℕ) (ws : List Word) (ms : List Mark) : Type 0 where
   is : Coded n front
   rest : AreAlike back ms
 
-sign : (n : ℕ) (w : What) (text : List ℕ) (ms : List Mark) (ws : List Word) → code (kind_by w (kept_text w text)) ≡ n → AreAlike ws (token w text ∷ ms) → Sign n ws ms
+sign : (n : ℕ) (w : What) (text : List ℕ) (ms : List Mark) (ws : List Word) → code (terminal_by w (kept_text w text)) ≡ n → AreAlike ws (token w text ∷ ms) → Sign n ws ms
 sign n w text ms ws e (v, vs, parts, is, same, h) = record { front = v ∷ []; back = vs; parts = parts; is = sign_back n w text (v ∷ []) e (v, [], refl, is, same, refl); rest = h }
 
 record Named (n : Identifier) (ws : List Word) (ms : List Mark) : Type 0 where
@@ -62,56 +62,56 @@ record Named (n : Identifier) (ws : List Word) (ms : List Mark) : Type 0 where
 named : (n : Identifier) (ms : List Mark) (ws : List Word) → IsSpelledName n.name → AreAlike ws (name n.name ∷ ms) → Named n ws ms
 named n ms ws fine (v, vs, parts, is, same, h) = record { front = v ∷ []; back = vs; parts = parts; again = name_again n (v ∷ []) fine (v, [], refl, is, same, refl); rest = h }
 
-double_colon_is : code (kind_by what.DoubleColon []) ≡ double_colon_code
-unfolding kind_by
+double_colon_is : code (terminal_by what.DoubleColon []) ≡ double_colon_code
+unfolding terminal_by
 double_colon_is = refl
 
-semicolon_is : code (kind_by what.Semicolon []) ≡ semicolon_code
-unfolding kind_by
+semicolon_is : code (terminal_by what.Semicolon []) ≡ semicolon_code
+unfolding terminal_by
 semicolon_is = refl
 
-colon_is : code (kind_by what.Colon []) ≡ colon_code
-unfolding kind_by
+colon_is : code (terminal_by what.Colon []) ≡ colon_code
+unfolding terminal_by
 colon_is = refl
 
-equal_is : code (kind_by what.Equal []) ≡ equal_code
-unfolding kind_by
+equal_is : code (terminal_by what.Equal []) ≡ equal_code
+unfolding terminal_by
 equal_is = refl
 
-left_paren_is : code (kind_by what.LeftParen []) ≡ left_paren_code
-unfolding kind_by
+left_paren_is : code (terminal_by what.LeftParen []) ≡ left_paren_code
+unfolding terminal_by
 left_paren_is = refl
 
-right_paren_is : code (kind_by what.RightParen []) ≡ right_paren_code
-unfolding kind_by
+right_paren_is : code (terminal_by what.RightParen []) ≡ right_paren_code
+unfolding terminal_by
 right_paren_is = refl
 
-predicate_is : code (kind_by what.Name (codes "predicate")) ≡ predicate_code
-unfolding kind_by
+predicate_is : code (terminal_by what.Name (codes "predicate")) ≡ predicate_code
+unfolding terminal_by
 predicate_is = refl
 
-array_is : code (kind_by what.Name (codes "array")) ≡ array_code
-unfolding kind_by
+array_is : code (terminal_by what.Name (codes "array")) ≡ array_code
+unfolding terminal_by
 array_is = refl
 
-constraint_is : code (kind_by what.Name (codes "constraint")) ≡ constraint_code
-unfolding kind_by
+constraint_is : code (terminal_by what.Name (codes "constraint")) ≡ constraint_code
+unfolding terminal_by
 constraint_is = refl
 
-satisfy_is : code (kind_by what.Name (codes "satisfy")) ≡ satisfy_code
-unfolding kind_by
+satisfy_is : code (terminal_by what.Name (codes "satisfy")) ≡ satisfy_code
+unfolding terminal_by
 satisfy_is = refl
 
-minimize_is : code (kind_by what.Name (codes "minimize")) ≡ minimize_code
-unfolding kind_by
+minimize_is : code (terminal_by what.Name (codes "minimize")) ≡ minimize_code
+unfolding terminal_by
 minimize_is = refl
 
-maximize_is : code (kind_by what.Name (codes "maximize")) ≡ maximize_code
-unfolding kind_by
+maximize_is : code (terminal_by what.Name (codes "maximize")) ≡ maximize_code
+unfolding terminal_by
 maximize_is = refl
 
-solve_is : code (kind_by what.Name (codes "solve")) ≡ solve_code
-unfolding kind_by
+solve_is : code (terminal_by what.Name (codes "solve")) ≡ solve_code
+unfolding terminal_by
 solve_is = refl
 
 ended_again : (ws : List Word) → AreAlike ws ended → Coded semicolon_code ws
@@ -245,7 +245,7 @@ parameter_again p ws (type, fine, value) h =
       );
     }
 
-variable_again : (v : Variable) (ws : List Word) → IsSpelledVariable v → AreAlike ws (variable_marks v) → Again IsVariable variable_aside v ws
+variable_again : (v : VariableDeclaration) (ws : List Word) → IsSpelledVariable v → AreAlike ws (variable_marks v) → Again IsVariable variable_aside v ws
 variable_again v ws (type, fine, annotations, value) h =
     let t = alike_parts ws (variable_type_marks v.element) (declared_marks v.name ++ (annotations_marks v.annotations ++ (maybe_value_marks v.value ++ ended))) h in
     let d = declared v.name (annotations_marks v.annotations ++ (maybe_value_marks v.value ++ ended)) t.back fine t.back_is in
@@ -282,16 +282,16 @@ number : (z : ℤ) (ms : List Mark) (ws : List Word) → AreAlike ws (token (wha
 number z ms ws (v, vs, parts, is, same, h) = record { front = v ∷ []; back = vs; parts = parts; is = (v, rw is refl, refl); rest = h }
 
 of_again : (ws : List Word) → AreAlike ws of_marks → Coded of_code ws
-of_again ws (v, vs, parts, is, same, none) = sign_back of_code what.Name (codes "of") ws of_kind (v, vs, parts, is, same, none)
+of_again ws (v, vs, parts, is, same, none) = sign_back of_code what.Name (codes "of") ws of_terminal (v, vs, parts, is, same, none)
 
 index_again : (r : IndexRange) (ws : List Word) → AreAlike ws (index_marks r) → IsIndexRange r ws
 index_again r ws h =
     let a = sign array_code what.Name (codes "array") (space ∷ (range_marks r ++ of_marks)) ws array_is h in
-    let b = sign left_bracket_code what.LeftBracket [] (token (what.Int r.first) [] ∷ symbol what.DotDot ∷ token (what.Int r.last) [] ∷ symbol what.RightBracket ∷ of_marks) a.back open_bracket_kind a.rest in
+    let b = sign left_bracket_code what.LeftBracket [] (token (what.Int r.first) [] ∷ symbol what.DotDot ∷ token (what.Int r.last) [] ∷ symbol what.RightBracket ∷ of_marks) a.back open_bracket_terminal a.rest in
     let c = number r.first (symbol what.DotDot ∷ token (what.Int r.last) [] ∷ symbol what.RightBracket ∷ of_marks) b.back b.rest in
-    let d = sign dot_dot_code what.DotDot [] (token (what.Int r.last) [] ∷ symbol what.RightBracket ∷ of_marks) c.back dots_kind c.rest in
+    let d = sign dot_dot_code what.DotDot [] (token (what.Int r.last) [] ∷ symbol what.RightBracket ∷ of_marks) c.back dots_terminal c.rest in
     let e = number r.last (symbol what.RightBracket ∷ of_marks) d.back d.rest in
-    let f = sign right_bracket_code what.RightBracket [] of_marks e.back close_bracket_kind e.rest in (
+    let f = sign right_bracket_code what.RightBracket [] of_marks e.back close_bracket_terminal e.rest in (
       a.front,
       a.back,
       a.parts,
@@ -364,7 +364,7 @@ variable_array_again v ws (range, type, fine, annotations, value) h =
 
 declaration_again : (x : Declaration) (ws : List Word) → IsSpelledDeclaration x → AreAlike ws (declaration_marks x) → Again IsDeclaration declaration_aside x ws
 declaration_again (declarations.Parameter p) ws fine h = let a = parameter_again p ws fine h in record { thing = declarations.Parameter a.thing; same = ap (λ (y : Parameter). declarations.Parameter y) a.same; is = a.is }
-declaration_again (declarations.Variable v) ws fine h = let a = variable_again v ws fine h in record { thing = declarations.Variable a.thing; same = ap (λ (y : Variable). declarations.Variable y) a.same; is = a.is }
+declaration_again (declarations.Variable v) ws fine h = let a = variable_again v ws fine h in record { thing = declarations.Variable a.thing; same = ap (λ (y : VariableDeclaration). declarations.Variable y) a.same; is = a.is }
 declaration_again (declarations.ParameterArray p) ws fine h = let a = parameter_array_again p ws fine h in record { thing = declarations.ParameterArray a.thing; same = ap (λ (y : ParameterArray). declarations.ParameterArray y) a.same; is = a.is }
 declaration_again (declarations.VariableArray v) ws fine h = let a = variable_array_again v ws fine h in record { thing = declarations.VariableArray a.thing; same = ap (λ (y : VariableArray). declarations.VariableArray y) a.same; is = a.is }
 
@@ -410,7 +410,7 @@ constraint_again c ws (fine, arguments, annotations) h =
       );
     }
 
-goal_again : (g : Goal) (ws : List Word) → IsSpelledGoal g → AreAlike ws (goal_marks g) → Again IsGoal goal_aside g ws
+goal_again : (g : SolveGoal) (ws : List Word) → IsSpelledGoal g → AreAlike ws (goal_marks g) → Again IsGoal goal_aside g ws
 goal_again goals.Satisfy ws fine h = record { thing = goals.Satisfy; same = refl; is = sign_back satisfy_code what.Name (codes "satisfy") ws satisfy_is h }
 goal_again (goals.Minimize n) ws fine h =
     let s = sign minimize_code what.Name (codes "minimize") (space ∷ name n.name ∷ []) ws minimize_is h in
@@ -421,8 +421,8 @@ goal_again (goals.Maximize n) ws fine h =
     let a = name_again n s.back fine s.rest in
     record { thing = goals.Maximize a.thing; same = ap (λ (i : Identifier). goals.Maximize i) a.same; is = (s.front, s.back, s.parts, s.is, a.is) }
 
-solve_word : (v : Word) → code (kind v) ≡ solve_code → solve_worth v ≡ Some v.at
-solve_word v e = rw (eq-eqb (code (kind v)) solve_code e) refl
+solve_word : (v : Word) → code (terminal v) ≡ solve_code → solve_worth v ≡ Some v.at
+solve_word v e = rw (eq-eqb (code (terminal v)) solve_code e) refl
 
 solve_again : (s : Solve) (ws : List Word) → IsSpelledSolve s → AreAlike ws (solve_marks s) → Again IsSolve solve_aside s ws
 solve_again s ws (annotations, goal) (v, vs, parts, is, same, h) =

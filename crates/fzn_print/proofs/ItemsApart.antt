@@ -4,8 +4,8 @@ use Rattle.std.specs.List.{AllByRecursion}
 use Rattle.fzn_lex.specs.declared.words.What.TheVariants as what
 use Rattle.fzn_lex.specs.Classes.{is_word, is_letter, is_digit}
 use Rattle.fzn_lex.proofs.TightPieces.{NumberStops}
-use Rattle.fzn_spelling.proofs.Spelled.{stops_at, stops_at_dots}
-use Rattle.fzn_syntax.specs.declared.word.Word.{Word}
+use Rattle.fzn_print.proofs.Spelled.{stops_at, stops_at_dots}
+use Rattle.fzn_words.specs.declared.word.Word.{Word}
 use Rattle.fzn_syntax.specs.declared.identifier.Identifier.{Identifier}
 use Rattle.fzn_syntax.specs.declared.element.ParameterType.{ParameterType}
 use Rattle.fzn_syntax.specs.declared.element.VariableType.{VariableType}
@@ -13,15 +13,15 @@ use Rattle.fzn_syntax.specs.declared.expression.Expression.{Expression}
 use Rattle.fzn_syntax.specs.declared.annotation.Annotation.{Annotation}
 use Rattle.fzn_syntax.specs.declared.predicate.Predicate.{Predicate}
 use Rattle.fzn_syntax.specs.declared.declaration.Parameter.{Parameter}
-use Rattle.fzn_syntax.specs.declared.declaration.Variable.{Variable}
+use Rattle.fzn_syntax.specs.declared.declaration.VariableDeclaration.{VariableDeclaration}
 use Rattle.fzn_syntax.specs.declared.declaration.IndexRange.{IndexRange}
 use Rattle.fzn_syntax.specs.declared.declaration.ParameterArray.{ParameterArray}
 use Rattle.fzn_syntax.specs.declared.declaration.VariableArray.{VariableArray}
 use Rattle.fzn_syntax.specs.declared.declaration.Declaration.{Declaration}
 use Rattle.fzn_syntax.specs.declared.declaration.Declaration.TheVariants as declarations
 use Rattle.fzn_syntax.specs.declared.constraint.Constraint.{Constraint}
-use Rattle.fzn_syntax.specs.declared.solve.Goal.{Goal}
-use Rattle.fzn_syntax.specs.declared.solve.Goal.TheVariants as goals
+use Rattle.fzn_syntax.specs.declared.solve.SolveGoal.{SolveGoal}
+use Rattle.fzn_syntax.specs.declared.solve.SolveGoal.TheVariants as goals
 use Rattle.fzn_syntax.specs.declared.solve.Solve.{Solve}
 use Rattle.fzn_syntax.specs.declared.items.Items.{Items}
 use Rattle.fzn_print.specs.Marks.{Mark, token, space, newline, symbol, name, text_of, listed, each}
@@ -31,9 +31,9 @@ use Rattle.fzn_syntax.proofs.Spelled.{IsSpelledName, IsSpelledExpression}
 use Rattle.fzn_print.proofs.FlatApart.{arguments_ends, arguments_stop, BodyParts, body_parts, body_shape, body_apart}
 use Rattle.fzn_print.proofs.WordStops.{symbol_stops}
 use Rattle.fzn_print.proofs.Texts.{text_of-append}
-use Rattle.fzn_syntax.specs.Words.{code, kind}
+use Rattle.fzn_words.specs.Words.{code, terminal}
 use Rattle.fzn_syntax.specs.Balance.{IsBody}
-use Rattle.fzn_spelling.specs.Spelling.{spelling_of}
+use Rattle.fzn_print.specs.Spelling.{spelling_of}
 use Rattle.fzn_lex.specs.Tokens.{Spells}
 use Rattle.fzn_syntax.proofs.SpelledItems.{IsSpelledArguments, IsSpelledAnnotation, AreSpelledAnnotations, IsSpelledPredicate, IsSpelledParameter, IsSpelledValue, IsSpelledVariable, IsSpelledRange, IsSpelledParameterArray, IsSpelledVariableArray, IsSpelledDeclaration, IsSpelledConstraint, IsSpelledGoal, IsSpelledSolve, IsSpelledItems}
 
@@ -93,8 +93,8 @@ body_stop : (ws : List Word) (rest : List ℕ) → IsBody ws ws → NumberStops 
 body_stop ws rest h =
     let b = body_parts ws h in
     let marks : body_marks ws ≡ flat_marks (b.first ∷ []) ++ (spaced_marks b.inner ++ flat_marks (b.last ∷ [])) = ap body_marks b.parts ∙ body_shape b.first b.inner b.last in
-    let low : 4 ≤ code (kind b.first) = let e = b.first_is in omega arith in
-    let high : code (kind b.first) ≤ 15 = let e = b.first_is in omega arith in
+    let low : 4 ≤ code (terminal b.first) = let e = b.first_is in omega arith in
+    let high : code (terminal b.first) ≤ 15 = let e = b.first_is in omega arith in
     rw marks (rw (append_assoc (spelling_of b.first.what b.first.text) (text_of (spaced_marks b.inner ++ flat_marks (b.last ∷ []))) rest)
     (symbol_stops b.first.what b.first.text (text_of (spaced_marks b.inner ++ flat_marks (b.last ∷ [])) ++ rest) low high))
 
@@ -133,7 +133,7 @@ parameter_apart p rest (type, named, value) =
     (AreApart-append (declared_marks p.name) (value_marks p.value ++ ended) rest (declared_apart p.name _ named after)
     (AreApart-append (value_marks p.value) ended rest (value_apart p.value _ value (at_semicolon _)) (ended_apart rest)))
 
-variable_apart : (v : Variable) (rest : List ℕ) → IsSpelledVariable v → AreApart (variable_marks v) rest
+variable_apart : (v : VariableDeclaration) (rest : List ℕ) → IsSpelledVariable v → AreApart (variable_marks v) rest
 variable_apart v rest (type, named, annotations, value) =
     let tail : NumberStops (text_of (maybe_value_marks v.value ++ ended) ++ rest) = stop_joined (maybe_value_marks v.value) ended rest (maybe_value_stop v.value (text_of ended ++ rest) (at_semicolon _)) in
     AreApart-append (variable_type_marks v.element) (declared_marks v.name ++ (annotations_marks v.annotations ++ (maybe_value_marks v.value ++ ended))) rest
@@ -193,7 +193,7 @@ constraint_apart c rest (named, arguments, annotations) =
 objective_apart : (word : List ℕ) (n : Identifier) (rest : List ℕ) → Spells what.Name word → IsSpelledName n.name → NumberStops rest → AreApart (objective_marks word n) rest
 objective_apart word n rest h fine stop = spaced word (name n.name ∷ []) rest h (fine.0, stop.no_word, tt)
 
-goal_apart : (g : Goal) (rest : List ℕ) → IsSpelledGoal g → NumberStops rest → AreApart (goal_marks g) rest
+goal_apart : (g : SolveGoal) (rest : List ℕ) → IsSpelledGoal g → NumberStops rest → AreApart (goal_marks g) rest
 goal_apart goals.Satisfy rest h stop = (satisfy_name, stop.no_word, tt)
 goal_apart (goals.Minimize n) rest h stop = objective_apart (codes "minimize") n rest minimize_name h stop
 goal_apart (goals.Maximize n) rest h stop = objective_apart (codes "maximize") n rest maximize_name h stop

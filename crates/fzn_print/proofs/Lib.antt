@@ -9,3 +9,5 @@ pub mod FlatApart
 pub mod ItemsApart
 pub mod ItemsAgain
 pub mod ReadBack
+pub mod Decimals
+pub mod Spelled

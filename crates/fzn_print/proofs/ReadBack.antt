@@ -3,7 +3,7 @@ use Rattle.std.proofs.Common.{◌≡◌, ℕ, List, [], refl, sym}
 use Rattle.fzn_lex.specs.Cutting.{tokens_of}
 use Rattle.fzn_lex.proofs.TightPieces.{tight_cut}
 use Rattle.fzn_syntax.specs.declared.items.Items.{Items}
-use Rattle.fzn_syntax.specs.Words.{words}
+use Rattle.fzn_words.specs.Words.{words}
 use Rattle.fzn_syntax.specs.Texts.{AreOfText}
 use Rattle.fzn_print.specs.Marks.{text_of}
 use Rattle.fzn_print.specs.Canonical.{items_marks}

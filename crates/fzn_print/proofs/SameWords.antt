@@ -5,13 +5,13 @@ use Rattle.std.specs.Prelude.{◌==◌}
 use Rattle.std.specs.List.{AllByRecursion}
 use Rattle.fzn_lex.specs.declared.words.What.TheVariants as what
 use Rattle.reading.specs.Language.{◌⨾◌, Nothing, One, Each, MaybeListed}
-use Rattle.fzn_syntax.specs.declared.word.Word.{Word}
+use Rattle.fzn_words.specs.declared.word.Word.{Word}
 use Rattle.fzn_syntax.specs.declared.identifier.Identifier.{Identifier}
 use Rattle.fzn_syntax.specs.declared.number.Number.{Number}
 use Rattle.fzn_syntax.specs.declared.number.Bounds.{Bounds}
 use Rattle.fzn_syntax.specs.declared.expression.Basic.{Basic}
 use Rattle.fzn_syntax.specs.declared.expression.Basic.TheVariants as basics
-use Rattle.fzn_syntax.specs.Words.{code, kind_by, kind, kept_text}
+use Rattle.fzn_words.specs.Words.{code, terminal_by, terminal, kept_text}
 use Rattle.fzn_syntax.specs.Grammar.{number_worth, name_worth, IsName, IsNumber, IsBounds, IsSet, IsBasic}
 use Rattle.fzn_syntax.specs.Arguments.{Argument, basic, text, call, list, Inside, empty, filled, Others, no_others, next, IsArguments}
 use Rattle.fzn_syntax.specs.Balance.{opening, closing, is_inert, Balanced, no_words, inert, matched, IsBody}
@@ -63,13 +63,13 @@ number_alike v s e d = rw (e, d) refl
 number_same : (n : Number) (ws us : List Word) → IsNumber n ws → AreSame ws us → IsNumber n us
 number_same n ws us d h = one_same number_worth n ws us number_alike d h
 
-named : (v s : Word) → v.what ≡ s.what → v.text ≡ s.text → (code (kind s) == name_code) ≡ true → name_worth v ≡ Some (record { name = v.text; at = v.at })
-named v s e d h = let k : (code (kind v) == name_code) ≡ true = rw (e, d) h in rw k refl
+named : (v s : Word) → v.what ≡ s.what → v.text ≡ s.text → (code (terminal s) == name_code) ≡ true → name_worth v ≡ Some (record { name = v.text; at = v.at })
+named v s e d h = let k : (code (terminal v) == name_code) ≡ true = rw (e, d) h in rw k refl
 
 pub name_same : (n : Identifier) (ws us : List Word) → IsName n ws → AreSame ws us → (m : Identifier) × IsName m us
 name_same n ws us (s, worth, e) h =
     let k : AreSame (s ∷ []) us = subst (λ (l : List Word). AreSame l us) e h in
-    let is = (cond_some (code (kind s) == name_code) (record { name = s.text; at = s.at }) n worth).0 in
+    let is = (cond_some (code (terminal s) == name_code) (record { name = s.text; at = s.at }) n worth).0 in
     (record { name = k.0.text; at = k.0.at }, (k.0, named k.0 s k.3 k.4 is, k.2 ∙ ap (λ (l : List Word). k.0 ∷ l) k.5))
 
 -- ---- joined
@@ -149,7 +149,7 @@ arguments_same ws us (e, d) h = (
       (λ x y. both_same Inside (Coded right_paren_code) Inside (Coded right_paren_code) x y (λ a b k s. inside_same k b s) (coded_same right_paren_code)) d h,
 )
 
-inert_same : (v w : Word) → v.what ≡ w.what → v.text ≡ w.text → is_inert (code (kind w)) ≡ true → is_inert (code (kind v)) ≡ true
+inert_same : (v w : Word) → v.what ≡ w.what → v.text ≡ w.text → is_inert (code (terminal w)) ≡ true → is_inert (code (terminal v)) ≡ true
 inert_same v w e d h = rw (e, d) h
 
 balanced_same : {ws : List Word} → Balanced ws → (us : List Word) → AreSame ws us → Balanced us

@@ -6,13 +6,13 @@ use Rattle.fzn_lex.specs.declared.words.What.{What}
 use Rattle.fzn_lex.specs.declared.words.What.TheVariants as what
 use Rattle.fzn_lex.specs.Classes.{is_word, is_letter, is_digit}
 use Rattle.fzn_lex.proofs.TightPieces.{NumberStops}
-use Rattle.fzn_spelling.specs.Spelling.{spelling_of}
-use Rattle.fzn_spelling.proofs.Spelled.{TokenStops, stops_at, stops_at_dots}
-use Rattle.fzn_syntax.specs.Words.{code, name_kind, kind_by}
+use Rattle.fzn_print.specs.Spelling.{spelling_of}
+use Rattle.fzn_print.proofs.Spelled.{TokenStops, stops_at, stops_at_dots}
+use Rattle.fzn_words.specs.Words.{code, name_terminal, terminal_by}
 use Rattle.fzn_print.proofs.Codes.{colon_code}
 
 -- a name is of the first kind, or a reserved word
-name_range : (text : List ℕ) → (code (name_kind text) ≡ 0) ⊎ (16 ≤ code (name_kind text))
+name_range : (text : List ℕ) → (code (name_terminal text) ≡ 0) ⊎ (16 ≤ code (name_terminal text))
 name_range text =
     cond_both (bytes_eq text (codes "array")) _ _ (λ k. (code k ≡ 0) ⊎ (16 ≤ code k)) (λ _. inr (omega arith)) (λ _.
     cond_both (bytes_eq text (codes "bool")) _ _ (λ k. (code k ≡ 0) ⊎ (16 ≤ code k)) (λ _. inr (omega arith)) (λ _.
@@ -71,12 +71,12 @@ byte_61 : is_word 61 ≡ false
 unfolding is_word is_letter is_digit
 byte_61 = refl
 
-named_apart : (text : List ℕ) → 4 ≤ code (name_kind text) → code (name_kind text) ≤ 15 → ⊥
+named_apart : (text : List ℕ) → 4 ≤ code (name_terminal text) → code (name_terminal text) ≤ 15 → ⊥
 named_apart text low high = elim (name_range text) [ inl e ↦ omega arith | inr e ↦ omega arith ]
 
 -- a symbol ends what stands before it
-pub symbol_stops : (w : What) (text rest : List ℕ) → 4 ≤ code (kind_by w text) → code (kind_by w text) ≤ 15 → NumberStops (spelling_of w text ++ rest)
-unfolding kind_by
+pub symbol_stops : (w : What) (text rest : List ℕ) → 4 ≤ code (terminal_by w text) → code (terminal_by w text) ≤ 15 → NumberStops (spelling_of w text ++ rest)
+unfolding terminal_by
 symbol_stops what.Name text rest low high = absurd (named_apart text low high)
 symbol_stops (what.Int z) text rest low high = absurd (omega arith)
 symbol_stops what.Float text rest low high = absurd (omega arith)
@@ -95,8 +95,8 @@ symbol_stops what.Equal text rest low high = stops_at 61 _ byte_61 (λ e. omega 
 symbol_stops what.DotDot text rest low high = stops_at_dots rest
 
 -- what ends a number ends each word that is no colon
-pub any_stops : (w : What) (text rest : List ℕ) → code (kind_by w text) ≢ colon_code → NumberStops rest → TokenStops w rest
-unfolding kind_by
+pub any_stops : (w : What) (text rest : List ℕ) → code (terminal_by w text) ≢ colon_code → NumberStops rest → TokenStops w rest
+unfolding terminal_by
 any_stops what.Name text rest other h = h.no_word
 any_stops (what.Int z) text rest other h = h
 any_stops what.Float text rest other h = h
@@ -115,8 +115,8 @@ any_stops what.Equal text rest other h = tt
 any_stops what.DotDot text rest other h = tt
 
 -- a symbol that is no colon goes on into nothing
-pub symbol_free : (w : What) (text rest : List ℕ) → 4 ≤ code (kind_by w text) → code (kind_by w text) ≤ 15 → code (kind_by w text) ≢ colon_code → TokenStops w rest
-unfolding kind_by
+pub symbol_free : (w : What) (text rest : List ℕ) → 4 ≤ code (terminal_by w text) → code (terminal_by w text) ≤ 15 → code (terminal_by w text) ≢ colon_code → TokenStops w rest
+unfolding terminal_by
 symbol_free what.Name text rest low high other = absurd (named_apart text low high)
 symbol_free (what.Int z) text rest low high other = absurd (omega arith)
 symbol_free what.Float text rest low high other = absurd (omega arith)
@@ -175,8 +175,8 @@ paren_stops what.DoubleColon rest = tt
 paren_stops what.Equal rest = tt
 paren_stops what.DotDot rest = tt
 
-right_paren : (v : What) (text : List ℕ) → code (kind_by v text) ≡ 5 → v ≡ what.RightParen
-unfolding kind_by
+right_paren : (v : What) (text : List ℕ) → code (terminal_by v text) ≡ 5 → v ≡ what.RightParen
+unfolding terminal_by
 right_paren what.Name text e = absurd (named_apart text (omega arith) (omega arith))
 right_paren (what.Int z) text e = absurd (omega arith)
 right_paren what.RightParen text e = refl
@@ -194,5 +194,5 @@ right_paren what.DoubleColon text e = absurd (omega arith)
 right_paren what.Equal text e = absurd (omega arith)
 right_paren what.DotDot text e = absurd (omega arith)
 
-pub closing_stops : (w v : What) (text rest : List ℕ) → code (kind_by v text) ≡ 5 → TokenStops w (spelling_of v text ++ rest)
+pub closing_stops : (w v : What) (text rest : List ℕ) → code (terminal_by v text) ≡ 5 → TokenStops w (spelling_of v text ++ rest)
 closing_stops w v text rest e = rw (right_paren v text e) (paren_stops w rest)

@@ -5,18 +5,18 @@ use Rattle.fzn_syntax.specs.declared.expression.Basic.{Basic}
 use Rattle.fzn_syntax.specs.declared.expression.Basic.TheVariants as basics
 use Rattle.fzn_syntax.specs.declared.expression.Expression.{Expression}
 use Rattle.fzn_syntax.specs.declared.expression.Expression.TheVariants as expressions
-use Rattle.fzn_syntax.specs.declared.word.Word.{Word}
+use Rattle.fzn_words.specs.declared.word.Word.{Word}
 use Rattle.fzn_syntax.specs.declared.annotation.Annotation.{Annotation}
 use Rattle.fzn_syntax.specs.declared.predicate.Predicate.{Predicate}
 use Rattle.fzn_syntax.specs.declared.declaration.Parameter.{Parameter}
-use Rattle.fzn_syntax.specs.declared.declaration.Variable.{Variable}
+use Rattle.fzn_syntax.specs.declared.declaration.VariableDeclaration.{VariableDeclaration}
 use Rattle.fzn_syntax.specs.declared.declaration.ParameterArray.{ParameterArray}
 use Rattle.fzn_syntax.specs.declared.declaration.VariableArray.{VariableArray}
 use Rattle.fzn_syntax.specs.declared.declaration.Declaration.{Declaration}
 use Rattle.fzn_syntax.specs.declared.declaration.Declaration.TheVariants as declarations
 use Rattle.fzn_syntax.specs.declared.constraint.Constraint.{Constraint}
-use Rattle.fzn_syntax.specs.declared.solve.Goal.{Goal}
-use Rattle.fzn_syntax.specs.declared.solve.Goal.TheVariants as goals
+use Rattle.fzn_syntax.specs.declared.solve.SolveGoal.{SolveGoal}
+use Rattle.fzn_syntax.specs.declared.solve.SolveGoal.TheVariants as goals
 use Rattle.fzn_syntax.specs.declared.solve.Solve.{Solve}
 use Rattle.fzn_syntax.specs.declared.items.Items.{Items}
 
@@ -59,7 +59,7 @@ abbrev pub parameter_aside : Parameter → Parameter
 parameter_aside p = record { element = p.element; name = name_aside p.name; value = expression_aside p.value }
 
 -- a variable
-abbrev pub variable_aside : Variable → Variable
+abbrev pub variable_aside : VariableDeclaration → VariableDeclaration
 variable_aside v = record { element = v.element; name = name_aside v.name; annotations = annotations_aside v.annotations; value = option_map expression_aside v.value }
 
 -- an array of parameters
@@ -83,7 +83,7 @@ abbrev pub constraint_aside : Constraint → Constraint
 constraint_aside c = record { name = name_aside c.name; arguments = map expression_aside c.arguments; annotations = annotations_aside c.annotations }
 
 -- the goal
-abbrev pub goal_aside : Goal → Goal
+abbrev pub goal_aside : SolveGoal → SolveGoal
 goal_aside goals.Satisfy = goals.Satisfy
 goal_aside (goals.Minimize n) = goals.Minimize (name_aside n)
 goal_aside (goals.Maximize n) = goals.Maximize (name_aside n)

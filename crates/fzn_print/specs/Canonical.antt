@@ -14,20 +14,20 @@ use Rattle.fzn_syntax.specs.declared.expression.Basic.{Basic}
 use Rattle.fzn_syntax.specs.declared.expression.Basic.TheVariants as basics
 use Rattle.fzn_syntax.specs.declared.expression.Expression.{Expression}
 use Rattle.fzn_syntax.specs.declared.expression.Expression.TheVariants as expressions
-use Rattle.fzn_syntax.specs.declared.word.Word.{Word}
+use Rattle.fzn_words.specs.declared.word.Word.{Word}
 use Rattle.fzn_syntax.specs.declared.identifier.Identifier.{Identifier}
 use Rattle.fzn_syntax.specs.declared.annotation.Annotation.{Annotation}
 use Rattle.fzn_syntax.specs.declared.predicate.Predicate.{Predicate}
 use Rattle.fzn_syntax.specs.declared.declaration.Parameter.{Parameter}
-use Rattle.fzn_syntax.specs.declared.declaration.Variable.{Variable}
+use Rattle.fzn_syntax.specs.declared.declaration.VariableDeclaration.{VariableDeclaration}
 use Rattle.fzn_syntax.specs.declared.declaration.IndexRange.{IndexRange}
 use Rattle.fzn_syntax.specs.declared.declaration.ParameterArray.{ParameterArray}
 use Rattle.fzn_syntax.specs.declared.declaration.VariableArray.{VariableArray}
 use Rattle.fzn_syntax.specs.declared.declaration.Declaration.{Declaration}
 use Rattle.fzn_syntax.specs.declared.declaration.Declaration.TheVariants as declarations
 use Rattle.fzn_syntax.specs.declared.constraint.Constraint.{Constraint}
-use Rattle.fzn_syntax.specs.declared.solve.Goal.{Goal}
-use Rattle.fzn_syntax.specs.declared.solve.Goal.TheVariants as goals
+use Rattle.fzn_syntax.specs.declared.solve.SolveGoal.{SolveGoal}
+use Rattle.fzn_syntax.specs.declared.solve.SolveGoal.TheVariants as goals
 use Rattle.fzn_syntax.specs.declared.solve.Solve.{Solve}
 use Rattle.fzn_syntax.specs.declared.items.Items.{Items}
 use Rattle.fzn_print.specs.Marks.{Mark, token, space, newline, symbol, name, listed, each}
@@ -147,7 +147,7 @@ abbrev pub parameter_marks : Parameter → List Mark
 parameter_marks p = parameter_type_marks p.element ++ (declared_marks p.name ++ (value_marks p.value ++ ended))
 
 -- a variable on its line
-abbrev pub variable_marks : Variable → List Mark
+abbrev pub variable_marks : VariableDeclaration → List Mark
 variable_marks v = variable_type_marks v.element ++ (declared_marks v.name ++ (annotations_marks v.annotations ++ (maybe_value_marks v.value ++ ended)))
 
 -- the first and the last index in brackets
@@ -189,7 +189,7 @@ abbrev pub objective_marks : List ℕ → Identifier → List Mark
 objective_marks word n = name word ∷ space ∷ name n.name ∷ []
 
 -- the goal
-abbrev pub goal_marks : Goal → List Mark
+abbrev pub goal_marks : SolveGoal → List Mark
 goal_marks goals.Satisfy = name (codes "satisfy") ∷ []
 goal_marks (goals.Minimize n) = objective_marks (codes "minimize") n
 goal_marks (goals.Maximize n) = objective_marks (codes "maximize") n

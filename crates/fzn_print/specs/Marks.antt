@@ -2,7 +2,7 @@
 use Rattle.std.specs.Prelude.{◌≡◌, ℕ, List, [], ◌∷◌, ◌++◌}
 use Rattle.fzn_lex.specs.declared.words.What.{What}
 use Rattle.fzn_lex.specs.declared.words.What.TheVariants.{Name, Comma}
-use Rattle.fzn_spelling.specs.Spelling.{spelling_of}
+use Rattle.fzn_print.specs.Spelling.{spelling_of}
 
 -- a token with its bytes where it is a name, a float or a text; a space; the end of a line
 pub data Mark : Type 0 where

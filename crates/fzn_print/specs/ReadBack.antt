@@ -3,8 +3,8 @@ use Rattle.std.specs.Prelude.{◌≡◌, ℕ, ◌≤◌, List, length, Ok}
 use Rattle.fzn_lex.specs.declared.tokens.Token.{Token}
 use Rattle.fzn_lex.specs.Cutting.{limit, IsLexed}
 use Rattle.fzn_syntax.specs.declared.items.Items.{Items}
-use Rattle.fzn_syntax.specs.declared.word.Word.{Word}
-use Rattle.fzn_syntax.specs.Words.{words}
+use Rattle.fzn_words.specs.declared.word.Word.{Word}
+use Rattle.fzn_words.specs.Words.{words}
 use Rattle.fzn_syntax.specs.Items.{AreItems}
 use Rattle.fzn_syntax.specs.Texts.{AreOfText}
 use Rattle.fzn_print.specs.Aside.{items_aside}

@@ -7,7 +7,8 @@ ghost use Rattle.fzn_print.specs.Canonical.{arguments_marks, annotation_marks, a
 use crate::marks::{write_name, write_space, write_symbol};
 use crate::words::write_words;
 use fzn_lex::What;
-use fzn_syntax::{Annotation, Sequence, Word};
+use fzn_syntax::{Annotation, Sequence};
+use fzn_words::Word;
 use std::alloc::AllocError;
 
 fn write_arguments(out: &mut Vec<u8>, arguments: &Option<Sequence<Word>>) -> Result<(), AllocError>

@@ -7,11 +7,11 @@ ghost use Rattle.fzn_print.specs.Canonical.{declared_marks, value_marks, maybe_v
 use crate::annotations::write_annotations;
 use crate::expressions::write_expression;
 use crate::marks::{write_end, write_name, write_space, write_symbol};
+use crate::tokens::write_token;
 use crate::types::{write_parameter_type, write_variable_type};
 use fzn_lex::What;
-use fzn_spelling::write_token;
 use fzn_syntax::{
-    Declaration, Expression, Identifier, IndexRange, Parameter, ParameterArray, Variable,
+    Declaration, Expression, Identifier, IndexRange, Parameter, ParameterArray, VariableDeclaration,
     VariableArray,
 };
 use std::alloc::AllocError;
@@ -55,7 +55,7 @@ fn write_parameter(out: &mut Vec<u8>, parameter: &Parameter) -> Result<(), Alloc
 }
 
 #[tactic(auto, using(crate::proofs::Texts::marked))]
-fn write_variable(out: &mut Vec<u8>, variable: &Variable) -> Result<(), AllocError>
+fn write_variable(out: &mut Vec<u8>, variable: &VariableDeclaration) -> Result<(), AllocError>
     ensures { OnOk result (out.new.items ≡ out.old.items ++ text_of (variable_marks variable.now)) }
 {
     write_variable_type(out, &variable.element)?;

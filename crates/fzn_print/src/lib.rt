@@ -10,10 +10,15 @@ mod numbers;
 mod predicates;
 mod printing;
 mod solving;
+mod symbols;
+mod tokens;
 mod types;
 mod words;
 
 pub use printing::print;
+pub use tokens::{every_token_is_spelled, write_token};
 
 #[cfg(test)]
 mod tests;
+#[cfg(test)]
+mod token_tests;

@@ -2,12 +2,12 @@
 
 ghost use Rattle.std.specs.Prelude.{◌≡◌, ◌++◌, [], ◌∷◌, OnOk};
 ghost use Rattle.fzn_lex.specs.declared.words.What.TheVariants.{Name};
-ghost use Rattle.fzn_spelling.specs.Spelling.{spelling_of};
+ghost use Rattle.fzn_print.specs.Spelling.{spelling_of};
 ghost use Rattle.fzn_print.specs.Marks.{text_of};
 ghost use Rattle.fzn_print.specs.Canonical.{ended};
 
+use crate::tokens::write_token;
 use fzn_lex::What;
-use fzn_spelling::write_token;
 use std::alloc::AllocError;
 
 // A token that is no name, no number and no text.

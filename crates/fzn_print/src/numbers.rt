@@ -5,8 +5,8 @@ ghost use Rattle.fzn_print.specs.Marks.{text_of, others, listed};
 ghost use Rattle.fzn_print.specs.Canonical.{number_marks, bounds_marks, set_marks};
 
 use crate::marks::write_symbol;
+use crate::tokens::write_token;
 use fzn_lex::What;
-use fzn_spelling::write_token;
 use fzn_syntax::{Bounds, Number, Sequence};
 use std::alloc::AllocError;
 

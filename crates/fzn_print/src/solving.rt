@@ -6,7 +6,7 @@ ghost use Rattle.fzn_print.specs.Canonical.{objective_marks, goal_marks, solve_m
 
 use crate::annotations::write_annotations;
 use crate::marks::{write_end, write_name, write_space};
-use fzn_syntax::{Goal, Identifier, Solve};
+use fzn_syntax::{Identifier, Solve, SolveGoal};
 use std::alloc::AllocError;
 
 #[tactic(auto, using(crate::proofs::Texts::marked))]
@@ -19,13 +19,13 @@ fn write_objective(out: &mut Vec<u8>, word: &[u8], name: &Identifier) -> Result<
 }
 
 #[tactic(auto, using(crate::proofs::Texts::marked))]
-fn write_goal(out: &mut Vec<u8>, goal: &Goal) -> Result<(), AllocError>
+fn write_goal(out: &mut Vec<u8>, goal: &SolveGoal) -> Result<(), AllocError>
     ensures { OnOk result (out.new.items ≡ out.old.items ++ text_of (goal_marks goal.now)) }
 {
     match goal {
-        Goal::Satisfy => write_name(out, b"satisfy"),
-        Goal::Minimize(name) => write_objective(out, b"minimize", name),
-        Goal::Maximize(name) => write_objective(out, b"maximize", name),
+        SolveGoal::Satisfy => write_name(out, b"satisfy"),
+        SolveGoal::Minimize(name) => write_objective(out, b"minimize", name),
+        SolveGoal::Maximize(name) => write_objective(out, b"maximize", name),
     }
 }
 

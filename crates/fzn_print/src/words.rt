@@ -5,8 +5,8 @@ ghost use Rattle.fzn_print.specs.Marks.{text_of, each};
 ghost use Rattle.fzn_print.specs.Canonical.{word_marks, flat_marks, spaced_word, spaced_marks, body_marks};
 
 use crate::marks::write_space;
-use fzn_spelling::write_token;
-use fzn_syntax::Word;
+use crate::tokens::write_token;
+use fzn_words::Word;
 use std::alloc::AllocError;
 
 // The first words.

@@ -6,11 +6,11 @@ use Rattle.reading.specs.Readers.{none}
 use Rattle.reading.specs.Machine.{run}
 use Rattle.reading.proofs.Laws.{Reads}
 use Rattle.reading.proofs.Machines.{Back, Came, Machine, run_reads}
-use Rattle.fzn_syntax.specs.declared.word.Word.{Word}
+use Rattle.fzn_words.specs.declared.word.Word.{Word}
 use Rattle.fzn_syntax.specs.declared.bracket.Bracket.{Bracket}
 use Rattle.fzn_syntax.specs.declared.bracket.Bracket.TheVariants as brackets
 use Rattle.fzn_syntax.specs.Around.{Around}
-use Rattle.fzn_syntax.specs.Words.{code, kind}
+use Rattle.fzn_words.specs.Words.{code, terminal}
 use Rattle.fzn_syntax.specs.Grammar.{Sign}
 use Rattle.fzn_syntax.specs.Balance.{opening, closing, is_inert, Balanced, no_words, inert, matched, IsBody, covered, uncovered, around_by, around_step, enclosed, body_at}
 use Rattle.fzn_syntax.proofs.Enclosures.{enclosed_reads}
@@ -46,7 +46,7 @@ closed_back b (c ∷ s) w d = λ ws l. ([], w ∷ ws, refl, no_words refl, (w �
 
 around_back : (b : Bracket) (s : List Bracket) (w : Word) → Back Follows (at b s) w (around_step (at b s) w)
 around_back b s w =
-    let n = code (kind w) in
+    let n = code (terminal w) in
     let P : Option (Option Around) → Type 0 = Back Follows (at b s) w in
     choose P (n == 4) (covered brackets.Paren (at b s)) _ (λ e. opened_back brackets.Paren b s w (sign_by (opening brackets.Paren) w e))
     (λ _. choose P (n == 6) (covered brackets.Square (at b s)) _ (λ e. opened_back brackets.Square b s w (sign_by (opening brackets.Square) w e))
@@ -96,7 +96,7 @@ closes b (k ∷ s) c t ws parts d l =
 comes_by : (b : Bracket) (s : List Bracket) (x r ws : List Word) → ws ≡ x ++ r → Balanced x → (Sign (closing b) ⨾ Behind s) r → Came around_step Follows (at b s) ws
 comes_by b s x r ws parts (no_words e) d = closes b s d.0 d.1 ws (parts ∙ ap (λ (y : List Word). y ++ r) e ∙ d.2) d.3 d.4
 comes_by b s x r ws parts (inert w y e i balanced) d =
-    (w, y ++ r, parts ∙ ap (λ (l : List Word). l ++ r) e, inr (at b s, inert_step b s (code (kind w)) i, (y, r, refl, balanced, d)))
+    (w, y ++ r, parts ∙ ap (λ (l : List Word). l ++ r) e, inr (at b s, inert_step b s (code (terminal w)) i, (y, r, refl, balanced, d)))
 comes_by b s x r ws parts (matched k o i c y e opens inside closing_it balanced) d =
     let w = opens.0 in
     let same = sign_code (opening k) o opens in

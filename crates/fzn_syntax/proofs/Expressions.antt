@@ -8,15 +8,15 @@ use Rattle.reading.proofs.Laws.{Stops, stops_none, Reads}
 use Rattle.reading.proofs.Joins.{Both, pair_reads, then_reads, made_reads, sure_reads, either_reads}
 use Rattle.reading.proofs.Loops.{Loops}
 use Rattle.reading.proofs.Lists.{behind_loops, maybe_reads, maybe_listed_reads}
-use Rattle.fzn_syntax.specs.declared.kind.Kind.TheVariants as kinds
-use Rattle.fzn_syntax.specs.declared.word.Word.{Word}
+use Rattle.fzn_words.specs.declared.terminal.Terminal.TheVariants as terminals
+use Rattle.fzn_words.specs.declared.word.Word.{Word}
 use Rattle.fzn_syntax.specs.declared.identifier.Identifier.{Identifier}
 use Rattle.fzn_syntax.specs.declared.number.Number.{Number}
 use Rattle.fzn_syntax.specs.declared.expression.Basic.{Basic}
 use Rattle.fzn_syntax.specs.declared.expression.Basic.TheVariants as basics
 use Rattle.fzn_syntax.specs.declared.expression.Expression.{Expression}
 use Rattle.fzn_syntax.specs.declared.expression.Expression.TheVariants as expressions
-use Rattle.fzn_syntax.specs.Words.{code, kind, is}
+use Rattle.fzn_words.specs.Words.{code, terminal, is}
 use Rattle.fzn_syntax.specs.Grammar.{Sign, IsName, IsNumber, IsBounds, IsSet, IsBasic, IsExpression}
 use Rattle.fzn_syntax.specs.Reading.{sign_at, name_at, number_at, is_number, set_at, number_or_range, upper_at, range_at, basic_at, more_basics_at, basics_at, leads_basic, some_basics_at, list_at, expression_at}
 use Rattle.fzn_syntax.proofs.Choices.{sure_choice_reads}
@@ -30,14 +30,14 @@ abbrev pub on_basic : ℕ → Bool
 on_basic n = (n == 15) || false
 
 abbrev IsUpper : Number → List Word → Type 0
-IsUpper n = Sign kinds.DotDot ⨾ IsNumber n
+IsUpper n = Sign terminals.DotDot ⨾ IsNumber n
 
 upper_reads : Reads (Maybe IsUpper) (leads on_basic) upper_at
 unfolding upper_at
 upper_reads =
-    maybe_reads IsUpper none (is kinds.DotDot) (behind (sign_at kinds.DotDot) number_at)
-    (made_reads (Both (λ (_ : Unit {0}). Sign kinds.DotDot) IsNumber) IsUpper none (λ p. p.1) _ (then_reads _ _ none _ _ (sign_reads kinds.DotDot) number_reads) (λ p ws d. d) (λ n ws d. ((tt, n), refl, d)))
-    (λ n used rest d. front_first (is kinds.DotDot) true (Sign kinds.DotDot) _ (sign_first (λ k. k == 15) true kinds.DotDot refl) used rest d)
+    maybe_reads IsUpper none (is terminals.DotDot) (behind (sign_at terminals.DotDot) number_at)
+    (made_reads (Both (λ (_ : Unit {0}). Sign terminals.DotDot) IsNumber) IsUpper none (λ p. p.1) _ (then_reads _ _ none _ _ (sign_reads terminals.DotDot) number_reads) (λ p ws d. d) (λ n ws d. ((tt, n), refl, d)))
+    (λ n used rest d. front_first (is terminals.DotDot) true (Sign terminals.DotDot) _ (sign_first (λ k. k == 15) true terminals.DotDot refl) used rest d)
 
 abbrev IsRanged : Basic → List Word → Type 0
 IsRanged (basics.Number n) ws = IsNumber n ws
@@ -94,8 +94,8 @@ IsNamed x ws = ⊥
 
 pub basic_first : (test : ℕ → Bool) (b : Bool) → test 29 ≡ b → test 19 ≡ b → test 8 ≡ b → test 3 ≡ b → test 1 ≡ b → test 0 ≡ b
     → (x : Basic) (used rest : List Word) → IsBasic x used → begins (leads test) (used ++ rest) ≡ b
-basic_first test b t f brace i fl name basics.True used rest d = sign_first test b kinds.True t used rest d
-basic_first test b t f brace i fl name basics.False used rest d = sign_first test b kinds.False f used rest d
+basic_first test b t f brace i fl name basics.True used rest d = sign_first test b terminals.True t used rest d
+basic_first test b t f brace i fl name basics.False used rest d = sign_first test b terminals.False f used rest d
 basic_first test b t f brace i fl name (basics.Name n) used rest d = name_first test b name n used rest d
 basic_first test b t f brace i fl name (basics.Number n) used rest d = number_first test b i fl n used rest d
 basic_first test b t f brace i fl name (basics.Range x) used rest d = bounds_first test b i fl x used rest d
@@ -104,7 +104,7 @@ basic_first test b t f brace i fl name (basics.Set ns) used rest d = set_first t
 basic1_first : (test : ℕ → Bool) (b : Bool) → test 19 ≡ b → test 8 ≡ b → test 3 ≡ b → test 1 ≡ b → test 0 ≡ b
     → (x : Basic) (used rest : List Word) → Basic1 x used → begins (leads test) (used ++ rest) ≡ b
 basic1_first test b f brace i fl name basics.True used rest d = absurd d
-basic1_first test b f brace i fl name basics.False used rest d = sign_first test b kinds.False f used rest d
+basic1_first test b f brace i fl name basics.False used rest d = sign_first test b terminals.False f used rest d
 basic1_first test b f brace i fl name (basics.Name n) used rest d = name_first test b name n used rest d
 basic1_first test b f brace i fl name (basics.Number n) used rest d = number_first test b i fl n used rest d
 basic1_first test b f brace i fl name (basics.Range x) used rest d = bounds_first test b i fl x used rest d
@@ -175,7 +175,7 @@ named_in (basics.Number n) ws d = absurd d
 named_in (basics.Range x) ws d = absurd d
 named_in (basics.Set ns) ws d = absurd d
 
-basic1_cases : (x : Basic) (ws : List Word) → IsBasic x ws → ((y : Unit {0}) × (basics.True ≡ x) × Sign kinds.True ws) ⊎ Basic1 x ws
+basic1_cases : (x : Basic) (ws : List Word) → IsBasic x ws → ((y : Unit {0}) × (basics.True ≡ x) × Sign terminals.True ws) ⊎ Basic1 x ws
 basic1_cases basics.True ws d = inl (tt, refl, d)
 basic1_cases basics.False ws d = inr d
 basic1_cases (basics.Name n) ws d = inr d
@@ -183,7 +183,7 @@ basic1_cases (basics.Number n) ws d = inr d
 basic1_cases (basics.Range x) ws d = inr d
 basic1_cases (basics.Set ns) ws d = inr d
 
-basic2_cases : (x : Basic) (ws : List Word) → Basic1 x ws → ((y : Unit {0}) × (basics.False ≡ x) × Sign kinds.False ws) ⊎ Basic2 x ws
+basic2_cases : (x : Basic) (ws : List Word) → Basic1 x ws → ((y : Unit {0}) × (basics.False ≡ x) × Sign terminals.False ws) ⊎ Basic2 x ws
 basic2_cases basics.True ws d = absurd d
 basic2_cases basics.False ws d = inl (tt, refl, d)
 basic2_cases (basics.Name n) ws d = inr d
@@ -210,9 +210,9 @@ ranged_cases (basics.Set ns) ws d = absurd d
 pub basic_reads : Reads IsBasic (leads on_basic) basic_at
 unfolding basic_at
 basic_reads =
-    sure_choice_reads (λ (_ : Unit {0}). Sign kinds.True) Basic1 IsBasic (leads on_basic) (is kinds.True) (λ _. basics.True) (sign_at kinds.True) _ (sign_reads kinds.True)
-    (sure_choice_reads (λ (_ : Unit {0}). Sign kinds.False) Basic2 Basic1 (leads on_basic) (is kinds.False) (λ _. basics.False) (sign_at kinds.False) _ (sign_reads kinds.False)
-    (sure_choice_reads IsSet Basic3 Basic2 (leads on_basic) (is kinds.LeftBrace) (λ ns. basics.Set ns) set_at _ set_reads
+    sure_choice_reads (λ (_ : Unit {0}). Sign terminals.True) Basic1 IsBasic (leads on_basic) (is terminals.True) (λ _. basics.True) (sign_at terminals.True) _ (sign_reads terminals.True)
+    (sure_choice_reads (λ (_ : Unit {0}). Sign terminals.False) Basic2 Basic1 (leads on_basic) (is terminals.False) (λ _. basics.False) (sign_at terminals.False) _ (sign_reads terminals.False)
+    (sure_choice_reads IsSet Basic3 Basic2 (leads on_basic) (is terminals.LeftBrace) (λ ns. basics.Set ns) set_at _ set_reads
     (either_reads IsRanged IsNamed Basic3 (leads on_basic) is_number range_at (made (λ n. basics.Name n) name_at) range_reads
     (sure_reads IsNamed (leads on_basic) (made (λ n. basics.Name n) name_at) (made_reads IsName IsNamed none (λ n. basics.Name n) name_at name_reads (λ n ws d. d) named_is))
     ranged_in named_in
@@ -221,22 +221,22 @@ basic_reads =
     ranged_cases)
     (λ ns used rest d. set_first (λ n. n == 8) true refl ns used rest d)
     (λ x used rest d stops. basic3_first (λ n. n == 8) false refl refl refl x used rest d) (λ ns ws d. d) basic3_in basic3_cases)
-    (λ y used rest d. sign_first (λ n. n == 19) true kinds.False refl used rest d)
+    (λ y used rest d. sign_first (λ n. n == 19) true terminals.False refl used rest d)
     (λ x used rest d stops. basic2_first (λ n. n == 19) false refl refl refl refl x used rest d) (λ y ws d. d) basic2_in basic2_cases)
-    (λ y used rest d. sign_first (λ n. n == 29) true kinds.True refl used rest d)
+    (λ y used rest d. sign_first (λ n. n == 29) true terminals.True refl used rest d)
     (λ x used rest d stops. basic1_first (λ n. n == 29) false refl refl refl refl refl x used rest d) (λ y ws d. d) basic1_in basic1_cases
 
 -- ---- lists of them
 
-pub comma_apart : (w : Word) → is kinds.Comma w ≡ true → leads on_basic w ≡ false
-comma_apart w e = let same : code (kind w) ≡ 10 = eqb-true (code (kind w)) 10 e in rw same refl
+pub comma_apart : (w : Word) → is terminals.Comma w ≡ true → leads on_basic w ≡ false
+comma_apart w e = let same : code (terminal w) ≡ 10 = eqb-true (code (terminal w)) 10 e in rw same refl
 
 -- a comma and a basic expression
 abbrev pub IsMoreBasic : Basic → List Word → Type 0
-IsMoreBasic x = Sign kinds.Comma ⨾ IsBasic x
+IsMoreBasic x = Sign terminals.Comma ⨾ IsBasic x
 
-pub basics_loops : Loops IsMoreBasic (leads on_basic) (is kinds.Comma) more_basics_at
-basics_loops = behind_loops (Sign kinds.Comma) (is kinds.Comma) (sign_at kinds.Comma) (sign_reads kinds.Comma) comma_starts IsBasic (leads on_basic) basic_at basic_reads comma_apart
+pub basics_loops : Loops IsMoreBasic (leads on_basic) (is terminals.Comma) more_basics_at
+basics_loops = behind_loops (Sign terminals.Comma) (is terminals.Comma) (sign_at terminals.Comma) (sign_reads terminals.Comma) comma_starts IsBasic (leads on_basic) basic_at basic_reads comma_apart
 
 abbrev leads_basic_code : ℕ → Bool
 leads_basic_code n = (n == 29) || ((n == 19) || ((n == 8) || (((n == 3) || (n == 1)) || (n == 0))))
@@ -244,25 +244,25 @@ leads_basic_code n = (n == 29) || ((n == 19) || ((n == 8) || (((n == 3) || (n ==
 abbrev on_basics : ℕ → Bool
 on_basics n = leads_basic_code n || ((n == 10) || on_basic n)
 
-some_basics_reads : Reads (MaybeListed (Sign kinds.Comma) IsBasic) (leads on_basics) some_basics_at
+some_basics_reads : Reads (MaybeListed (Sign terminals.Comma) IsBasic) (leads on_basics) some_basics_at
 unfolding some_basics_at basics_at
 some_basics_reads =
-    maybe_listed_reads (Sign kinds.Comma) (is kinds.Comma) (sign_at kinds.Comma) (sign_reads kinds.Comma) comma_starts IsBasic (leads on_basic) basic_at basic_reads comma_apart
+    maybe_listed_reads (Sign terminals.Comma) (is terminals.Comma) (sign_at terminals.Comma) (sign_reads terminals.Comma) comma_starts IsBasic (leads on_basic) basic_at basic_reads comma_apart
     leads_basic (λ x used rest d. basic_first leads_basic_code true refl refl refl refl refl refl x used rest d)
 
 abbrev IsList : List Basic → List Word → Type 0
-IsList xs = Sign kinds.LeftBracket ⨾ MaybeListed (Sign kinds.Comma) IsBasic xs ⨾ Sign kinds.RightBracket
+IsList xs = Sign terminals.LeftBracket ⨾ MaybeListed (Sign terminals.Comma) IsBasic xs ⨾ Sign terminals.RightBracket
 
 list_reads : Reads IsList none list_at
 unfolding list_at
 list_reads =
-    made_reads (Both (λ (_ : Unit {0}). Sign kinds.LeftBracket) (Both (MaybeListed (Sign kinds.Comma) IsBasic) (λ (_ : Unit {0}). Sign kinds.RightBracket))) IsList none (λ p. p.1.0) _
-    (then_reads _ _ none _ _ (sign_reads kinds.LeftBracket)
-    (pair_reads _ _ (leads on_basics) none _ _ some_basics_reads (sign_reads kinds.RightBracket) (λ y used rest d stops. sign_first on_basics false kinds.RightBracket refl used rest d)))
+    made_reads (Both (λ (_ : Unit {0}). Sign terminals.LeftBracket) (Both (MaybeListed (Sign terminals.Comma) IsBasic) (λ (_ : Unit {0}). Sign terminals.RightBracket))) IsList none (λ p. p.1.0) _
+    (then_reads _ _ none _ _ (sign_reads terminals.LeftBracket)
+    (pair_reads _ _ (leads on_basics) none _ _ some_basics_reads (sign_reads terminals.RightBracket) (λ y used rest d stops. sign_first on_basics false terminals.RightBracket refl used rest d)))
     (λ p ws d. d) (λ xs ws d. ((tt, (xs, tt)), refl, d))
 
 list_first : (test : ℕ → Bool) (b : Bool) → test 6 ≡ b → (xs : List Basic) (used rest : List Word) → IsList xs used → begins (leads test) (used ++ rest) ≡ b
-list_first test b passes xs used rest d = front_first (leads test) b (Sign kinds.LeftBracket) _ (sign_first test b kinds.LeftBracket passes) used rest d
+list_first test b passes xs used rest d = front_first (leads test) b (Sign terminals.LeftBracket) _ (sign_first test b terminals.LeftBracket passes) used rest d
 
 -- ---- expressions
 
@@ -295,7 +295,7 @@ expression_first test b list t f brace i fl name (expressions.List xs) used rest
 pub expression_reads : Reads IsExpression (leads on_basic) expression_at
 unfolding expression_at
 expression_reads =
-    sure_choice_reads IsList Expression1 IsExpression (leads on_basic) (is kinds.LeftBracket) (λ xs. expressions.List xs) list_at _ list_reads
+    sure_choice_reads IsList Expression1 IsExpression (leads on_basic) (is terminals.LeftBracket) (λ xs. expressions.List xs) list_at _ list_reads
     (made_reads IsBasic Expression1 (leads on_basic) (λ x. expressions.Basic x) basic_at basic_reads (λ x ws d. d) expression1_is)
     (λ xs used rest d. list_first (λ n. n == 6) true refl xs used rest d)
     (λ x used rest d stops. expression1_first (λ n. n == 6) false refl refl refl refl refl refl x used rest d) (λ xs ws d. d) expression1_in expression_cases

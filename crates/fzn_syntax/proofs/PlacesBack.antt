@@ -1,8 +1,8 @@
 -- Backwards: what stands behind a word in the language of the next place stands with it in the language of this one.
 use Rattle.std.proofs.Common.{◌≡◌, Bool, true, false, cond, ◌==◌, List, [], ◌∷◌, ◌++◌, Option, Some, None, inl, inr, refl, ap}
 use Rattle.reading.proofs.Machines.{Back}
-use Rattle.fzn_syntax.specs.declared.kind.Kind.TheVariants as kinds
-use Rattle.fzn_syntax.specs.declared.word.Word.{Word}
+use Rattle.fzn_words.specs.declared.terminal.Terminal.TheVariants as terminals
+use Rattle.fzn_words.specs.declared.word.Word.{Word}
 use Rattle.fzn_syntax.specs.declared.identifier.Identifier.{Identifier}
 use Rattle.fzn_syntax.specs.declared.number.Number.{Number}
 use Rattle.fzn_syntax.specs.declared.expression.Basic.TheVariants as basics
@@ -11,7 +11,7 @@ use Rattle.fzn_syntax.specs.declared.turn.Place.TheVariants as places
 use Rattle.fzn_syntax.specs.declared.turn.Turn.{Turn}
 use Rattle.fzn_syntax.specs.declared.turn.Turn.TheVariants as turns
 use Rattle.fzn_syntax.specs.Position.{Position}
-use Rattle.fzn_syntax.specs.Words.{code, kind, is}
+use Rattle.fzn_words.specs.Words.{code, terminal, is}
 use Rattle.fzn_syntax.specs.Grammar.{Sign, IsName, IsNumber}
 use Rattle.fzn_syntax.specs.Arguments.{basic, text, call, list, empty, filled, no_others, next}
 use Rattle.fzn_syntax.specs.Turns.{closer, start, finish, member, turn, moved, step}
@@ -26,9 +26,9 @@ TurnsBack p b s w t = Back Follows p w (moved t b s)
 
 -- ---- a bracket is closed
 
-closer_by : (b : Bool) (w : Word) → (code (kind w) == closer b) ≡ true → Closer b (w ∷ [])
-closer_by true w e = sign_by kinds.RightParen w e
-closer_by false w e = sign_by kinds.RightBracket w e
+closer_by : (b : Bool) (w : Word) → (code (terminal w) == closer b) ≡ true → Closer b (w ∷ [])
+closer_by true w e = sign_by terminals.RightParen w e
+closer_by false w e = sign_by terminals.RightBracket w e
 
 pop_back : (p : Position) (b : Bool) (s : List Bool) (w : Word) → ((t : List Word) → Tail s t → Follows p (w ∷ t)) → TurnsBack p b s w turns.Pop
 pop_back p b [] w f = f [] refl
@@ -55,7 +55,7 @@ number_back b s w n d ws (inr (m, l)) =
     let parts : ws ≡ (o ++ x) ++ t = two_parts o x t l.1 ws l.2 l.4.2 in
     (w ∷ (o ++ x), t, ap (λ (r : List Word). w ∷ r) parts, basic (basics.Range (record { lower = n; upper = m })) (w ∷ [], o ++ x, refl, d, (o, x, refl, l.3, l.4.3)), l.4.4)
 
-brace_back : (b : Bool) (s : List Bool) (w : Word) → Sign kinds.LeftBrace (w ∷ []) → (ws : List Word) → Lang places.SetFirst b s ws → Lang places.Want b s (w ∷ ws)
+brace_back : (b : Bool) (s : List Bool) (w : Word) → Sign terminals.LeftBrace (w ∷ []) → (ws : List Word) → Lang places.SetFirst b s ws → Lang places.Want b s (w ∷ ws)
 brace_back b s w d ws (ns, l) =
     let m = l.0 in
     let c = l.4.0 in
@@ -63,7 +63,7 @@ brace_back b s w d ws (ns, l) =
     let parts : ws ≡ (m ++ c) ++ t = two_parts m c t l.1 ws l.2 l.4.2 in
     (w ∷ (m ++ c), t, ap (λ (r : List Word). w ∷ r) parts, basic (basics.Set ns) (w ∷ [], m ++ c, refl, d, (m, c, refl, l.3, l.4.3)), l.4.4)
 
-bracket_back : (b : Bool) (s : List Bool) (w : Word) → Sign kinds.LeftBracket (w ∷ []) → (ws : List Word) → Lang places.First false (b ∷ s) ws → Lang places.Want b s (w ∷ ws)
+bracket_back : (b : Bool) (s : List Bool) (w : Word) → Sign terminals.LeftBracket (w ∷ []) → (ws : List Word) → Lang places.First false (b ∷ s) ws → Lang places.Want b s (w ∷ ws)
 bracket_back b s w d ws l =
     let i = l.0 in
     let c = l.4.0 in
@@ -71,34 +71,34 @@ bracket_back b s w d ws l =
     let parts : ws ≡ (i ++ c) ++ t = two_parts i c t l.1 ws l.2 l.4.2 in
     (w ∷ (i ++ c), t, ap (λ (r : List Word). w ∷ r) parts, list (w ∷ []) i c refl d l.3 l.4.3, l.4.4)
 
-want_back : (b : Bool) (s : List Bool) (w : Word) → TurnsBack (at places.Want b s) b s w (start (code (kind w)))
+want_back : (b : Bool) (s : List Bool) (w : Word) → TurnsBack (at places.Want b s) b s w (start (code (terminal w)))
 want_back b s w =
-    let n = code (kind w) in
+    let n = code (terminal w) in
     let P : Turn → Type 0 = TurnsBack (at places.Want b s) b s w in
-    choose P (n == 29) (turns.Stay places.After) _ (λ e. λ ws l. (w ∷ [], ws, refl, basic basics.True (sign_by kinds.True w e), l))
-    (λ _. choose P (n == 19) (turns.Stay places.After) _ (λ e. λ ws l. (w ∷ [], ws, refl, basic basics.False (sign_by kinds.False w e), l))
-    (λ _. choose P (n == 2) (turns.Stay places.After) _ (λ e. λ ws l. (w ∷ [], ws, refl, text (sign_by kinds.Text w e), l))
+    choose P (n == 29) (turns.Stay places.After) _ (λ e. λ ws l. (w ∷ [], ws, refl, basic basics.True (sign_by terminals.True w e), l))
+    (λ _. choose P (n == 19) (turns.Stay places.After) _ (λ e. λ ws l. (w ∷ [], ws, refl, basic basics.False (sign_by terminals.False w e), l))
+    (λ _. choose P (n == 2) (turns.Stay places.After) _ (λ e. λ ws l. (w ∷ [], ws, refl, text (sign_by terminals.Text w e), l))
     (λ _. choose P (n == 0) (turns.Stay places.Named) _ (λ e. let d = name_by w e in named_back b s w d.0 d.1)
     (λ _. choose P (n == 3) (turns.Stay places.Number) _ (λ e. let d = int_by w e in number_back b s w d.0 d.1)
     (λ _. choose P (n == 1) (turns.Stay places.Number) _ (λ e. let d = float_by w e in number_back b s w d.0 d.1)
-    (λ _. choose P (n == 8) (turns.Stay places.SetFirst) _ (λ e. brace_back b s w (sign_by kinds.LeftBrace w e))
-    (λ _. choose P (n == 6) (turns.Push false) turns.Stop (λ e. bracket_back b s w (sign_by kinds.LeftBracket w e)) (λ _. tt))))))))
+    (λ _. choose P (n == 8) (turns.Stay places.SetFirst) _ (λ e. brace_back b s w (sign_by terminals.LeftBrace w e))
+    (λ _. choose P (n == 6) (turns.Push false) turns.Stop (λ e. bracket_back b s w (sign_by terminals.LeftBracket w e)) (λ _. tt))))))))
 
 -- ---- an argument is followed
 
-after_back : (b : Bool) (s : List Bool) (w : Word) → TurnsBack (at places.After b s) b s w (finish b (code (kind w)))
+after_back : (b : Bool) (s : List Bool) (w : Word) → TurnsBack (at places.After b s) b s w (finish b (code (terminal w)))
 after_back b s w =
-    let n = code (kind w) in
+    let n = code (terminal w) in
     let P : Turn → Type 0 = TurnsBack (at places.After b s) b s w in
     choose P (n == 10) (turns.Stay places.Want) _ (λ e. λ ws l. comma_back ws e l)
     (λ _. choose P (n == closer b) turns.Pop turns.Stop (λ e. pop_back (at places.After b s) b s w (λ t l. ([], w ∷ t, refl, no_others refl, (w ∷ [], t, refl, closer_by b w e, l)))) (λ _. tt)) where
-      comma_back : (ws : List Word) → is kinds.Comma w ≡ true → Lang places.Want b s ws → Tail (b ∷ s) (w ∷ ws)
+      comma_back : (ws : List Word) → is terminals.Comma w ≡ true → Lang places.Want b s ws → Tail (b ∷ s) (w ∷ ws)
       comma_back ws e l =
           let a = l.0 in
           let o = l.4.0 in
           let r = l.4.1 in
           let parts : ws ≡ (a ++ o) ++ r = two_parts a o r l.1 ws l.2 l.4.2 in
-          (w ∷ (a ++ o), r, ap (λ (x : List Word). w ∷ x) parts, next (w ∷ []) a o refl (sign_by kinds.Comma w e) l.3 l.4.3, l.4.4)
+          (w ∷ (a ++ o), r, ap (λ (x : List Word). w ∷ x) parts, next (w ∷ []) a o refl (sign_by terminals.Comma w e) l.3 l.4.3, l.4.4)
 
 -- the same, in a language that holds more
 back_in : (p q : Position) (w : Word) (o : Option (Option Position)) → ((ws : List Word) → Follows p ws → Follows q ws) → Back Follows p w o → Back Follows q w o
@@ -114,29 +114,29 @@ want_first b s ws l =
     let parts : ws ≡ (a ++ o) ++ r = two_parts a o r l.1 ws l.2 l.4.2 in
     (a ++ o, r, parts, filled a o refl l.3 l.4.3, l.4.4)
 
-first_back : (b : Bool) (s : List Bool) (w : Word) → TurnsBack (at places.First b s) b s w (cond (code (kind w) == closer b) turns.Pop (start (code (kind w))))
+first_back : (b : Bool) (s : List Bool) (w : Word) → TurnsBack (at places.First b s) b s w (cond (code (terminal w) == closer b) turns.Pop (start (code (terminal w))))
 first_back b s w =
-    choose (TurnsBack (at places.First b s) b s w) (code (kind w) == closer b) turns.Pop (start (code (kind w)))
+    choose (TurnsBack (at places.First b s) b s w) (code (terminal w) == closer b) turns.Pop (start (code (terminal w)))
     (λ e. pop_back (at places.First b s) b s w (λ t l. ([], w ∷ t, refl, empty refl, (w ∷ [], t, refl, closer_by b w e, l))))
-    (λ _. back_in (at places.Want b s) (at places.First b s) w (moved (start (code (kind w))) b s) (want_first b s) (want_back b s w))
+    (λ _. back_in (at places.Want b s) (at places.First b s) w (moved (start (code (terminal w))) b s) (want_first b s) (want_back b s w))
 
-named_place_back : (b : Bool) (s : List Bool) (w : Word) → TurnsBack (at places.Named b s) b s w (cond (code (kind w) == 4) (turns.Push true) (finish b (code (kind w))))
+named_place_back : (b : Bool) (s : List Bool) (w : Word) → TurnsBack (at places.Named b s) b s w (cond (code (terminal w) == 4) (turns.Push true) (finish b (code (terminal w))))
 named_place_back b s w =
-    choose (TurnsBack (at places.Named b s) b s w) (code (kind w) == 4) (turns.Push true) (finish b (code (kind w)))
-    (λ e. λ ws l. inr (w ∷ [], ws, refl, sign_by kinds.LeftParen w e, l))
-    (λ _. back_in (at places.After b s) (at places.Named b s) w (moved (finish b (code (kind w))) b s) (λ ws l. inl l) (after_back b s w))
+    choose (TurnsBack (at places.Named b s) b s w) (code (terminal w) == 4) (turns.Push true) (finish b (code (terminal w)))
+    (λ e. λ ws l. inr (w ∷ [], ws, refl, sign_by terminals.LeftParen w e, l))
+    (λ _. back_in (at places.After b s) (at places.Named b s) w (moved (finish b (code (terminal w))) b s) (λ ws l. inl l) (after_back b s w))
 
-number_place_back : (b : Bool) (s : List Bool) (w : Word) → TurnsBack (at places.Number b s) b s w (cond (code (kind w) == 15) (turns.Stay places.Dots) (finish b (code (kind w))))
+number_place_back : (b : Bool) (s : List Bool) (w : Word) → TurnsBack (at places.Number b s) b s w (cond (code (terminal w) == 15) (turns.Stay places.Dots) (finish b (code (terminal w))))
 number_place_back b s w =
-    choose (TurnsBack (at places.Number b s) b s w) (code (kind w) == 15) (turns.Stay places.Dots) (finish b (code (kind w)))
-    (λ e. λ ws l. inr (l.0, (w ∷ [], ws, refl, sign_by kinds.DotDot w e, l.1)))
-    (λ _. back_in (at places.After b s) (at places.Number b s) w (moved (finish b (code (kind w))) b s) (λ ws l. inl l) (after_back b s w))
+    choose (TurnsBack (at places.Number b s) b s w) (code (terminal w) == 15) (turns.Stay places.Dots) (finish b (code (terminal w)))
+    (λ e. λ ws l. inr (l.0, (w ∷ [], ws, refl, sign_by terminals.DotDot w e, l.1)))
+    (λ _. back_in (at places.After b s) (at places.Number b s) w (moved (finish b (code (terminal w))) b s) (λ ws l. inl l) (after_back b s w))
 
-dots_back : (b : Bool) (s : List Bool) (w : Word) → TurnsBack (at places.Dots b s) b s w (cond (code (kind w) == 3) (turns.Stay places.After) (cond (code (kind w) == 1) (turns.Stay places.After) turns.Stop))
+dots_back : (b : Bool) (s : List Bool) (w : Word) → TurnsBack (at places.Dots b s) b s w (cond (code (terminal w) == 3) (turns.Stay places.After) (cond (code (terminal w) == 1) (turns.Stay places.After) turns.Stop))
 dots_back b s w =
     let P : Turn → Type 0 = TurnsBack (at places.Dots b s) b s w in
-    choose P (code (kind w) == 3) (turns.Stay places.After) _ (λ e. let d = int_by w e in λ ws l. (d.0, (w ∷ [], ws, refl, d.1, l)))
-    (λ _. choose P (code (kind w) == 1) (turns.Stay places.After) turns.Stop (λ e. let d = float_by w e in λ ws l. (d.0, (w ∷ [], ws, refl, d.1, l))) (λ _. tt))
+    choose P (code (terminal w) == 3) (turns.Stay places.After) _ (λ e. let d = int_by w e in λ ws l. (d.0, (w ∷ [], ws, refl, d.1, l)))
+    (λ _. choose P (code (terminal w) == 1) (turns.Stay places.After) turns.Stop (λ e. let d = float_by w e in λ ws l. (d.0, (w ∷ [], ws, refl, d.1, l))) (λ _. tt))
 
 -- ---- sets
 
@@ -151,31 +151,31 @@ want_set b s ws (n, ns, l) =
     let parts : ws ≡ (x ++ m) ++ r = two_parts x m r l.1 ws l.2 l.4.2 in
     (n ∷ ns, (x ++ m, r, parts, (x, m, refl, l.3, l.4.3), l.4.4))
 
-set_want_back : (b : Bool) (s : List Bool) (w : Word) → TurnsBack (at places.SetWant b s) b s w (member (code (kind w)))
+set_want_back : (b : Bool) (s : List Bool) (w : Word) → TurnsBack (at places.SetWant b s) b s w (member (code (terminal w)))
 set_want_back b s w =
     let P : Turn → Type 0 = TurnsBack (at places.SetWant b s) b s w in
-    choose P (code (kind w) == 3) (turns.Stay places.SetAfter) _ (λ e. let d = int_by w e in member_want b s w d.0 d.1)
-    (λ _. choose P (code (kind w) == 1) (turns.Stay places.SetAfter) turns.Stop (λ e. let d = float_by w e in member_want b s w d.0 d.1) (λ _. tt))
+    choose P (code (terminal w) == 3) (turns.Stay places.SetAfter) _ (λ e. let d = int_by w e in member_want b s w d.0 d.1)
+    (λ _. choose P (code (terminal w) == 1) (turns.Stay places.SetAfter) turns.Stop (λ e. let d = float_by w e in member_want b s w d.0 d.1) (λ _. tt))
 
-set_first_back : (b : Bool) (s : List Bool) (w : Word) → TurnsBack (at places.SetFirst b s) b s w (cond (code (kind w) == 9) (turns.Stay places.After) (member (code (kind w))))
+set_first_back : (b : Bool) (s : List Bool) (w : Word) → TurnsBack (at places.SetFirst b s) b s w (cond (code (terminal w) == 9) (turns.Stay places.After) (member (code (terminal w))))
 set_first_back b s w =
-    choose (TurnsBack (at places.SetFirst b s) b s w) (code (kind w) == 9) (turns.Stay places.After) (member (code (kind w)))
-    (λ e. λ ws l. ([], ([], w ∷ ws, refl, refl, (w ∷ [], ws, refl, sign_by kinds.RightBrace w e, l))))
-    (λ _. back_in (at places.SetWant b s) (at places.SetFirst b s) w (moved (member (code (kind w))) b s) (want_set b s) (set_want_back b s w))
+    choose (TurnsBack (at places.SetFirst b s) b s w) (code (terminal w) == 9) (turns.Stay places.After) (member (code (terminal w)))
+    (λ e. λ ws l. ([], ([], w ∷ ws, refl, refl, (w ∷ [], ws, refl, sign_by terminals.RightBrace w e, l))))
+    (λ _. back_in (at places.SetWant b s) (at places.SetFirst b s) w (moved (member (code (terminal w))) b s) (want_set b s) (set_want_back b s w))
 
 set_after_back : (b : Bool) (s : List Bool) (w : Word)
-    → TurnsBack (at places.SetAfter b s) b s w (cond (code (kind w) == 10) (turns.Stay places.SetWant) (cond (code (kind w) == 9) (turns.Stay places.After) turns.Stop))
+    → TurnsBack (at places.SetAfter b s) b s w (cond (code (terminal w) == 10) (turns.Stay places.SetWant) (cond (code (terminal w) == 9) (turns.Stay places.After) turns.Stop))
 set_after_back b s w =
     let P : Turn → Type 0 = TurnsBack (at places.SetAfter b s) b s w in
-    choose P (code (kind w) == 10) (turns.Stay places.SetWant) _ (λ e. λ ws l. comma_set ws e l)
-    (λ _. choose P (code (kind w) == 9) (turns.Stay places.After) turns.Stop (λ e. λ ws l. ([], ([], w ∷ ws, refl, refl, (w ∷ [], ws, refl, sign_by kinds.RightBrace w e, l)))) (λ _. tt)) where
-      comma_set : (ws : List Word) → is kinds.Comma w ≡ true → Lang places.SetWant b s ws → Lang places.SetAfter b s (w ∷ ws)
+    choose P (code (terminal w) == 10) (turns.Stay places.SetWant) _ (λ e. λ ws l. comma_set ws e l)
+    (λ _. choose P (code (terminal w) == 9) (turns.Stay places.After) turns.Stop (λ e. λ ws l. ([], ([], w ∷ ws, refl, refl, (w ∷ [], ws, refl, sign_by terminals.RightBrace w e, l)))) (λ _. tt)) where
+      comma_set : (ws : List Word) → is terminals.Comma w ≡ true → Lang places.SetWant b s ws → Lang places.SetAfter b s (w ∷ ws)
       comma_set ws e (n, ns, l) =
           let x = l.0 in
           let m = l.4.0 in
           let r = l.4.1 in
           let parts : ws ≡ (x ++ m) ++ r = two_parts x m r l.1 ws l.2 l.4.2 in
-          (n ∷ ns, (w ∷ (x ++ m), r, ap (λ (y : List Word). w ∷ y) parts, (w ∷ x, m, refl, (w ∷ [], x, refl, sign_by kinds.Comma w e, l.3), l.4.3), l.4.4))
+          (n ∷ ns, (w ∷ (x ++ m), r, ap (λ (y : List Word). w ∷ y) parts, (w ∷ x, m, refl, (w ∷ [], x, refl, sign_by terminals.Comma w e, l.3), l.4.3), l.4.4))
 
 back_by : (place : Place) (b : Bool) (s : List Bool) (w : Word) → Back Follows (at place b s) w (step (at place b s) w)
 unfolding turn

@@ -12,8 +12,8 @@ use Rattle.fzn_lex.specs.Cutting.{IsWhole}
 use Rattle.fzn_lex.proofs.KeptTokens.{IsSmallToken, IsKeptToken, whole_kept}
 use Rattle.fzn_lex.specs.Kept.{IsKept}
 use Rattle.reading.specs.Language.{◌⨾◌, Nothing, One, Each, MaybeListed}
-use Rattle.fzn_syntax.specs.declared.kind.Kind.TheVariants as kinds
-use Rattle.fzn_syntax.specs.declared.word.Word.{Word}
+use Rattle.fzn_words.specs.declared.terminal.Terminal.TheVariants as terminals
+use Rattle.fzn_words.specs.declared.word.Word.{Word}
 use Rattle.fzn_syntax.specs.declared.identifier.Identifier.{Identifier}
 use Rattle.fzn_syntax.specs.declared.number.Number.{Number}
 use Rattle.fzn_syntax.specs.declared.number.Number.TheVariants as numbers
@@ -28,7 +28,7 @@ use Rattle.fzn_syntax.specs.declared.expression.Basic.{Basic}
 use Rattle.fzn_syntax.specs.declared.expression.Basic.TheVariants as basics
 use Rattle.fzn_syntax.specs.declared.expression.Expression.{Expression}
 use Rattle.fzn_syntax.specs.declared.expression.Expression.TheVariants as expressions
-use Rattle.fzn_syntax.specs.Words.{code, kind_by, kind, kept_text, word_of, words, is}
+use Rattle.fzn_words.specs.Words.{code, terminal_by, terminal, kept_text, word_of, words, is}
 use Rattle.fzn_syntax.specs.Grammar.{number_of, Sign, IsName, IsNumber, IsBounds, IsSet, IsElement, IsParameterType, IsDomain, IsVariableType, IsBasic, IsExpression}
 
 -- ---- the parts of a text: numbers are small, floats and names are spelled
@@ -59,7 +59,7 @@ IsSpelledVariableType (variables.SetOf e) = IsSpelledElement e
 
 -- spelled like a name, and no reserved word
 abbrev pub IsSpelledName : List ℕ → Type 0
-IsSpelledName text = Spells what.Name text × (code (kind_by what.Name text) ≡ code kinds.Name)
+IsSpelledName text = Spells what.Name text × (code (terminal_by what.Name text) ≡ code terminals.Name)
 
 abbrev pub IsSpelledBasic : Basic → Type 0
 IsSpelledBasic (basics.Name n) = IsSpelledName n.name
@@ -151,14 +151,14 @@ bounds_spelled b ws (x, y, e, low, (u, v, e', dots, high)) h =
 
 -- lists with commas
 module _ {X : Type 0} (D : X → List Word → Type 0) (Spelled : X → Type 0) (spelled : (x : X) (ws : List Word) → D x ws → AreKept ws → Spelled x) where
-  others_spelled : (xs : List X) (ws : List Word) → Each (λ y. Sign kinds.Comma ⨾ D y) xs ws → AreKept ws → AllByRecursion Spelled xs
+  others_spelled : (xs : List X) (ws : List Word) → Each (λ y. Sign terminals.Comma ⨾ D y) xs ws → AreKept ws → AllByRecursion Spelled xs
   others_spelled [] ws d h = tt
   others_spelled (x ∷ xs) ws (a, b, e, (u, v, e', comma, d), more) h =
       let p = kept_parts a b (subst AreKept e h) in
       let q = kept_parts u v (subst AreKept e' p.0) in
       (spelled x v d q.1, others_spelled xs b more p.1)
 
-  pub listed_spelled : (xs : List X) (ws : List Word) → MaybeListed (Sign kinds.Comma) D xs ws → AreKept ws → AllByRecursion Spelled xs
+  pub listed_spelled : (xs : List X) (ws : List Word) → MaybeListed (Sign terminals.Comma) D xs ws → AreKept ws → AllByRecursion Spelled xs
   listed_spelled [] ws d h = tt
   listed_spelled (x ∷ xs) ws (a, b, e, d, more) h = let p = kept_parts a b (subst AreKept e h) in (spelled x a d p.0, others_spelled xs b more p.1)
 
@@ -174,7 +174,7 @@ element_spelled elements.Float ws d h = tt
 element_spelled (elements.Range b) ws d h = bounds_spelled b ws d h
 element_spelled (elements.Set ns) ws d h = set_spelled ns ws d h
 
-set_of_spelled : (x : Element) (ws : List Word) → (Sign kinds.Set ⨾ Sign kinds.Of ⨾ IsElement x) ws → AreKept ws → IsSpelledElement x
+set_of_spelled : (x : Element) (ws : List Word) → (Sign terminals.Set ⨾ Sign terminals.Of ⨾ IsElement x) ws → AreKept ws → IsSpelledElement x
 set_of_spelled x ws (a, b, e, one, (u, v, e', two, d)) h =
     let p = kept_parts a b (subst AreKept e h) in
     let q = kept_parts u v (subst AreKept e' p.1) in
@@ -196,8 +196,8 @@ variable_type_spelled t ws (a, b, e, one, d) h = let p = kept_parts a b (subst A
 
 -- ---- names
 
-what_name : (w : What) (text : List ℕ) → code (kind_by w text) ≡ code kinds.Name → w ≡ what.Name
-unfolding kind_by
+what_name : (w : What) (text : List ℕ) → code (terminal_by w text) ≡ code terminals.Name → w ≡ what.Name
+unfolding terminal_by
 what_name what.Name text e = refl
 what_name (what.Int z) text e = absurd (omega arith)
 what_name what.Float text e = absurd (omega arith)
@@ -215,19 +215,19 @@ what_name what.DoubleColon text e = absurd (omega arith)
 what_name what.Equal text e = absurd (omega arith)
 what_name what.DotDot text e = absurd (omega arith)
 
-named_spelled : (w : What) (text : List ℕ) → code (kind_by w text) ≡ code kinds.Name → IsKept w text → IsSpelledName text
+named_spelled : (w : What) (text : List ℕ) → code (terminal_by w text) ≡ code terminals.Name → IsKept w text → IsSpelledName text
 named_spelled w text e h =
     let is : w ≡ what.Name = what_name w text e in
-    let k : code (kind_by what.Name text) ≡ code kinds.Name = rw is at e in
+    let k : code (terminal_by what.Name text) ≡ code terminals.Name = rw is at e in
     (subst (λ (v : What). IsKept v text) is h, k)
 
 pub name_spelled : (n : Identifier) (ws : List Word) → IsName n ws → AreKept ws → IsSpelledName n.name
 name_spelled n ws (s, worth, e) h =
     let k = subst AreKept e h in
-    let p = cond_some (code (kind s) == code kinds.Name) (record { name = s.text; at = s.at }) n worth in
-    let kind_is : code (kind s) ≡ code kinds.Name = eqb-true (code (kind s)) (code kinds.Name) p.0 in
+    let p = cond_some (code (terminal s) == code terminals.Name) (record { name = s.text; at = s.at }) n worth in
+    let terminal_is : code (terminal s) ≡ code terminals.Name = eqb-true (code (terminal s)) (code terminals.Name) p.0 in
     let same : s.text ≡ n.name = ap (λ (i : Identifier). i.name) p.1 in
-    subst IsSpelledName same (named_spelled s.what s.text kind_is k.0.0)
+    subst IsSpelledName same (named_spelled s.what s.text terminal_is k.0.0)
 
 -- ---- expressions
 

@@ -7,7 +7,7 @@ use Rattle.fzn_lex.specs.declared.words.What.TheVariants as what
 use Rattle.fzn_lex.specs.Tokens.{IsSmall}
 use Rattle.fzn_lex.specs.Kept.{IsKept}
 use Rattle.reading.specs.Language.{◌⨾◌, Nothing, One, Maybe, Each, MaybeListed}
-use Rattle.fzn_syntax.specs.declared.word.Word.{Word}
+use Rattle.fzn_words.specs.declared.word.Word.{Word}
 use Rattle.fzn_syntax.specs.declared.identifier.Identifier.{Identifier}
 use Rattle.fzn_syntax.specs.declared.element.ParameterType.{ParameterType}
 use Rattle.fzn_syntax.specs.declared.element.VariableType.{VariableType}
@@ -15,18 +15,18 @@ use Rattle.fzn_syntax.specs.declared.expression.Expression.{Expression}
 use Rattle.fzn_syntax.specs.declared.annotation.Annotation.{Annotation}
 use Rattle.fzn_syntax.specs.declared.predicate.Predicate.{Predicate}
 use Rattle.fzn_syntax.specs.declared.declaration.Parameter.{Parameter}
-use Rattle.fzn_syntax.specs.declared.declaration.Variable.{Variable}
+use Rattle.fzn_syntax.specs.declared.declaration.VariableDeclaration.{VariableDeclaration}
 use Rattle.fzn_syntax.specs.declared.declaration.IndexRange.{IndexRange}
 use Rattle.fzn_syntax.specs.declared.declaration.ParameterArray.{ParameterArray}
 use Rattle.fzn_syntax.specs.declared.declaration.VariableArray.{VariableArray}
 use Rattle.fzn_syntax.specs.declared.declaration.Declaration.{Declaration}
 use Rattle.fzn_syntax.specs.declared.declaration.Declaration.TheVariants as declarations
 use Rattle.fzn_syntax.specs.declared.constraint.Constraint.{Constraint}
-use Rattle.fzn_syntax.specs.declared.solve.Goal.{Goal}
-use Rattle.fzn_syntax.specs.declared.solve.Goal.TheVariants as goals
+use Rattle.fzn_syntax.specs.declared.solve.SolveGoal.{SolveGoal}
+use Rattle.fzn_syntax.specs.declared.solve.SolveGoal.TheVariants as goals
 use Rattle.fzn_syntax.specs.declared.solve.Solve.{Solve}
 use Rattle.fzn_syntax.specs.declared.items.Items.{Items}
-use Rattle.fzn_syntax.specs.Words.{int_of}
+use Rattle.fzn_words.specs.Words.{int_of}
 use Rattle.fzn_syntax.specs.Grammar.{IsName, IsInt, IsExpression, IsParameterType, IsVariableType}
 use Rattle.fzn_syntax.specs.Arguments.{IsArguments}
 use Rattle.fzn_syntax.specs.Balance.{IsBody}
@@ -53,7 +53,7 @@ abbrev pub IsSpelledValue : Option Expression → Type 0
 IsSpelledValue None = Unit {0}
 IsSpelledValue (Some x) = IsSpelledExpression x
 
-abbrev pub IsSpelledVariable : Variable → Type 0
+abbrev pub IsSpelledVariable : VariableDeclaration → Type 0
 IsSpelledVariable v = IsSpelledVariableType v.element × IsSpelledName v.name.name × AreSpelledAnnotations v.annotations × IsSpelledValue v.value
 
 abbrev pub IsSpelledRange : IndexRange → Type 0
@@ -74,7 +74,7 @@ IsSpelledDeclaration (declarations.VariableArray a) = IsSpelledVariableArray a
 abbrev pub IsSpelledConstraint : Constraint → Type 0
 IsSpelledConstraint c = IsSpelledName c.name.name × AllByRecursion IsSpelledExpression c.arguments × AreSpelledAnnotations c.annotations
 
-abbrev pub IsSpelledGoal : Goal → Type 0
+abbrev pub IsSpelledGoal : SolveGoal → Type 0
 IsSpelledGoal goals.Satisfy = Unit {0}
 IsSpelledGoal (goals.Minimize n) = IsSpelledName n.name
 IsSpelledGoal (goals.Maximize n) = IsSpelledName n.name
@@ -142,7 +142,7 @@ parameter_spelled p ws d k =
     (λ ts t f. behind_spelled _ _ (IsSpelledExpression p.value) ts (λ rs r q. before_spelled _ _ (IsSpelledExpression p.value) rs (expression_spelled p.value) r q) t f) z g) y h) d k in
     (x.0, x.1.0, x.1.1)
 
-variable_spelled : (v : Variable) (ws : List Word) → IsVariable v ws → AreKept ws → IsSpelledVariable v
+variable_spelled : (v : VariableDeclaration) (ws : List Word) → IsVariable v ws → AreKept ws → IsSpelledVariable v
 variable_spelled v ws d k =
     let x = both_spelled _ _ (IsSpelledVariableType v.element) (IsSpelledName v.name.name × (AreSpelledAnnotations v.annotations × IsSpelledValue v.value)) ws (variable_type_spelled v.element)
     (λ us y h. behind_spelled _ _ (IsSpelledName v.name.name × (AreSpelledAnnotations v.annotations × IsSpelledValue v.value)) us
@@ -192,7 +192,7 @@ constraint_spelled c ws d k =
     (λ rs r q. behind_spelled _ _ (AreSpelledAnnotations c.annotations) rs (λ ps p m. before_spelled _ _ (AreSpelledAnnotations c.annotations) ps (annotations_spelled c.annotations) p m) r q) t f) z g) y h) d k in
     (x.0, x.1.0, x.1.1)
 
-goal_spelled : (g : Goal) (ws : List Word) → IsGoal g ws → AreKept ws → IsSpelledGoal g
+goal_spelled : (g : SolveGoal) (ws : List Word) → IsGoal g ws → AreKept ws → IsSpelledGoal g
 goal_spelled goals.Satisfy ws d k = tt
 goal_spelled (goals.Minimize n) ws d k = behind_spelled _ _ (IsSpelledName n.name) ws (name_spelled n) d k
 goal_spelled (goals.Maximize n) ws d k = behind_spelled _ _ (IsSpelledName n.name) ws (name_spelled n) d k

@@ -9,14 +9,14 @@ use Rattle.reading.proofs.Laws.{Stops, Reads}
 use Rattle.reading.proofs.Joins.{Both, pair_reads, made_reads}
 use Rattle.reading.proofs.Loops.{many_reads}
 use Rattle.reading.proofs.Faults.{whole_reads, whole_ends, not_both, one_place, fails_there, read_whole, one_thing}
-use Rattle.fzn_syntax.specs.declared.kind.Kind.TheVariants as kinds
-use Rattle.fzn_syntax.specs.declared.word.Word.{Word}
+use Rattle.fzn_words.specs.declared.terminal.Terminal.TheVariants as terminals
+use Rattle.fzn_words.specs.declared.word.Word.{Word}
 use Rattle.fzn_syntax.specs.declared.error.SyntaxError.TheVariants as faults
 use Rattle.fzn_syntax.specs.declared.declaration.Declaration.{Declaration}
 use Rattle.fzn_syntax.specs.declared.constraint.Constraint.{Constraint}
 use Rattle.fzn_syntax.specs.declared.solve.Solve.{Solve}
 use Rattle.fzn_syntax.specs.declared.items.Items.{Items}
-use Rattle.fzn_syntax.specs.Words.{is, word_of, words}
+use Rattle.fzn_words.specs.Words.{is, word_of, words}
 use Rattle.fzn_syntax.specs.Items.{IsPredicate, IsDeclaration, IsConstraint, IsSolve, AreItems}
 use Rattle.fzn_syntax.specs.ItemReading.{predicate_at, declaration_at, constraint_at, solve_at, predicates_at, declarations_at, constraints_at, items_at, text_at}
 use Rattle.fzn_syntax.specs.Parsed.{place_of, StopsAt, HasOneAnswer}
@@ -53,7 +53,7 @@ later_first (x ∷ ds) cs s used rest d =
 
 last_reads : Reads AreLast none (pair constraints_at solve_at)
 last_reads =
-    pair_reads (Each IsConstraint) IsSolve (leads on_constraints) none constraints_at solve_at (many_reads IsConstraint none (is kinds.Constraint) constraint_at constraint_loops) solve_reads
+    pair_reads (Each IsConstraint) IsSolve (leads on_constraints) none constraints_at solve_at (many_reads IsConstraint none (is terminals.Constraint) constraint_at constraint_loops) solve_reads
     (λ s used rest d stops. solve_first on_constraints false refl s used rest d)
 
 later_reads : Reads AreLater none (pair declarations_at (pair constraints_at solve_at))
@@ -66,7 +66,7 @@ unfolding items_at
 items_reads =
     made_reads (Both (Each IsPredicate) AreLater) AreItems none _ (pair predicates_at (pair declarations_at (pair constraints_at solve_at)))
     (pair_reads (Each IsPredicate) AreLater (leads on_predicates) none predicates_at (pair declarations_at (pair constraints_at solve_at))
-    (many_reads IsPredicate none (is kinds.Predicate) predicate_at predicate_loops) later_reads
+    (many_reads IsPredicate none (is terminals.Predicate) predicate_at predicate_loops) later_reads
     (λ y used rest d stops. later_first y.0 y.1.0 y.1.1 used rest d))
     (λ p ws d. d) (λ t ws d. ((t.predicates, (t.declarations, (t.constraints, t.solve))), refl, d))
 

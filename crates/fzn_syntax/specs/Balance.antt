@@ -3,27 +3,27 @@ use Rattle.std.specs.Prelude.{◌≡◌, ℕ, Bool, true, ◌||◌, not, ◌==�
 use Rattle.reading.specs.Language.{◌⨾◌}
 use Rattle.reading.specs.Readers.{Answer, pair, made}
 use Rattle.reading.specs.Machine.{run}
-use Rattle.fzn_syntax.specs.declared.kind.Kind.{Kind}
-use Rattle.fzn_syntax.specs.declared.kind.Kind.TheVariants as kinds
-use Rattle.fzn_syntax.specs.declared.word.Word.{Word}
+use Rattle.fzn_words.specs.declared.terminal.Terminal.{Terminal}
+use Rattle.fzn_words.specs.declared.terminal.Terminal.TheVariants as terminals
+use Rattle.fzn_words.specs.declared.word.Word.{Word}
 use Rattle.fzn_syntax.specs.declared.bracket.Bracket.{Bracket}
 use Rattle.fzn_syntax.specs.declared.bracket.Bracket.TheVariants as brackets
 use Rattle.fzn_syntax.specs.Around.{Around}
-use Rattle.fzn_syntax.specs.Words.{code, kind}
+use Rattle.fzn_words.specs.Words.{code, terminal}
 use Rattle.fzn_syntax.specs.Grammar.{Sign}
 use Rattle.fzn_syntax.specs.Turns.{paren_at}
 
 -- the kind of word that opens a bracket
-abbrev pub opening : Bracket → Kind
-opening brackets.Paren = kinds.LeftParen
-opening brackets.Square = kinds.LeftBracket
-opening brackets.Brace = kinds.LeftBrace
+abbrev pub opening : Bracket → Terminal
+opening brackets.Paren = terminals.LeftParen
+opening brackets.Square = terminals.LeftBracket
+opening brackets.Brace = terminals.LeftBrace
 
 -- the kind of word that closes it
-abbrev pub closing : Bracket → Kind
-closing brackets.Paren = kinds.RightParen
-closing brackets.Square = kinds.RightBracket
-closing brackets.Brace = kinds.RightBrace
+abbrev pub closing : Bracket → Terminal
+closing brackets.Paren = terminals.RightParen
+closing brackets.Square = terminals.RightBracket
+closing brackets.Brace = terminals.RightBrace
 
 -- the code of a word that is no bracket and no semicolon
 abbrev pub is_inert : ℕ → Bool
@@ -32,12 +32,12 @@ is_inert n = not ((n == 4) || ((n == 5) || ((n == 6) || ((n == 7) || ((n == 8) |
 -- any words but semicolons whose brackets match
 pub data Balanced : List Word → Type 0 where
   no_words : {ws : List Word} → ws ≡ [] → Balanced ws
-  inert : {ws : List Word} (w : Word) (r : List Word) → ws ≡ w ∷ r → is_inert (code (kind w)) ≡ true → Balanced r → Balanced ws
+  inert : {ws : List Word} (w : Word) (r : List Word) → ws ≡ w ∷ r → is_inert (code (terminal w)) ≡ true → Balanced r → Balanced ws
   matched : {ws : List Word} (b : Bracket) (o i c r : List Word) → ws ≡ o ++ (i ++ (c ++ r)) → Sign (opening b) o → Balanced i → Sign (closing b) c → Balanced r → Balanced ws
 
 -- '(' balanced ')', kept as its words
 abbrev pub IsBody : List Word → List Word → Type 0
-IsBody flat ws = (flat ≡ ws) × (Sign kinds.LeftParen ⨾ Balanced ⨾ Sign kinds.RightParen) ws
+IsBody flat ws = (flat ≡ ws) × (Sign terminals.LeftParen ⨾ Balanced ⨾ Sign terminals.RightParen) ws
 
 -- ---- word by word
 
@@ -62,7 +62,7 @@ around_by p n =
 
 -- what a word makes of them
 abbrev pub around_step : Around → Word → Option (Option Around)
-around_step p w = around_by p (code (kind w))
+around_step p w = around_by p (code (terminal w))
 
 -- behind the first parenthesis
 abbrev pub enclosed : Around

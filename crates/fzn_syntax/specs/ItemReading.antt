@@ -1,13 +1,13 @@
 -- What the readers of items answer.
 use Rattle.std.specs.Prelude.{ℕ, Bool, ◌||◌, List, [], Option}
 use Rattle.reading.specs.Readers.{Answer, one, nothing, pair, made, either, maybe, many, behind, listed, whole}
-use Rattle.fzn_syntax.specs.declared.kind.Kind.TheVariants as kinds
-use Rattle.fzn_syntax.specs.declared.word.Word.{Word}
+use Rattle.fzn_words.specs.declared.terminal.Terminal.TheVariants as terminals
+use Rattle.fzn_words.specs.declared.word.Word.{Word}
 use Rattle.fzn_syntax.specs.declared.expression.Expression.{Expression}
 use Rattle.fzn_syntax.specs.declared.annotation.Annotation.{Annotation}
 use Rattle.fzn_syntax.specs.declared.predicate.Predicate.{Predicate}
 use Rattle.fzn_syntax.specs.declared.declaration.Parameter.{Parameter}
-use Rattle.fzn_syntax.specs.declared.declaration.Variable.{Variable}
+use Rattle.fzn_syntax.specs.declared.declaration.VariableDeclaration.{VariableDeclaration}
 use Rattle.fzn_syntax.specs.declared.declaration.IndexRange.{IndexRange}
 use Rattle.fzn_syntax.specs.declared.declaration.Declaration.{Declaration}
 use Rattle.fzn_syntax.specs.declared.declaration.Declaration.TheVariants as declarations
@@ -15,11 +15,11 @@ use Rattle.fzn_syntax.specs.declared.declaration.Entries.{Entries}
 use Rattle.fzn_syntax.specs.declared.declaration.Entries.TheVariants as entries
 use Rattle.fzn_syntax.specs.declared.declaration.VariableEntries.{VariableEntries}
 use Rattle.fzn_syntax.specs.declared.constraint.Constraint.{Constraint}
-use Rattle.fzn_syntax.specs.declared.solve.Goal.{Goal}
-use Rattle.fzn_syntax.specs.declared.solve.Goal.TheVariants as goals
+use Rattle.fzn_syntax.specs.declared.solve.SolveGoal.{SolveGoal}
+use Rattle.fzn_syntax.specs.declared.solve.SolveGoal.TheVariants as goals
 use Rattle.fzn_syntax.specs.declared.solve.Solve.{Solve}
 use Rattle.fzn_syntax.specs.declared.items.Items.{Items}
-use Rattle.fzn_syntax.specs.Words.{is}
+use Rattle.fzn_words.specs.Words.{is}
 use Rattle.fzn_syntax.specs.Reading.{sign_at, name_at, int_at, leads_basic, expression_at, parameter_type_at, variable_type_at}
 use Rattle.fzn_syntax.specs.Turns.{arguments_at}
 use Rattle.fzn_syntax.specs.Balance.{body_at}
@@ -27,55 +27,55 @@ use Rattle.fzn_syntax.specs.Items.{solve_worth}
 
 -- reads ['(' [arg {',' arg}*] ')']
 unfoldable pub maybe_arguments_at : List Word → Answer Word (Option (List Word))
-maybe_arguments_at = maybe (is kinds.LeftParen) arguments_at
+maybe_arguments_at = maybe (is terminals.LeftParen) arguments_at
 
 -- reads '::' Name ['(' [arg {',' arg}*] ')']
 unfoldable pub annotation_at : List Word → Answer Word Annotation
-annotation_at = made (λ p. record { name = p.1.0; arguments = p.1.1 }) (pair (sign_at kinds.DoubleColon) (pair name_at maybe_arguments_at))
+annotation_at = made (λ p. record { name = p.1.0; arguments = p.1.1 }) (pair (sign_at terminals.DoubleColon) (pair name_at maybe_arguments_at))
 
 -- reads {'::' ann}*
 abbrev pub annotations_at : List Word → Answer Word (List Annotation)
-annotations_at = many (is kinds.DoubleColon) annotation_at
+annotations_at = many (is terminals.DoubleColon) annotation_at
 
 -- reads 'predicate' Name '(' balanced ')' ';'
 unfoldable pub predicate_at : List Word → Answer Word Predicate
-predicate_at = made (λ p. record { name = p.1.0; body = p.1.1.0 }) (pair (sign_at kinds.Predicate) (pair name_at (pair body_at (sign_at kinds.Semicolon))))
+predicate_at = made (λ p. record { name = p.1.0; body = p.1.1.0 }) (pair (sign_at terminals.Predicate) (pair name_at (pair body_at (sign_at terminals.Semicolon))))
 
 -- reads partype ':' Name '=' expr ';'
 unfoldable pub parameter_at : List Word → Answer Word Parameter
 parameter_at =
     made (λ p. record { element = p.0; name = p.1.1.0; value = p.1.1.1.1.0 })
-    (pair parameter_type_at (pair (sign_at kinds.Colon) (pair name_at (pair (sign_at kinds.Equal) (pair expression_at (sign_at kinds.Semicolon))))))
+    (pair parameter_type_at (pair (sign_at terminals.Colon) (pair name_at (pair (sign_at terminals.Equal) (pair expression_at (sign_at terminals.Semicolon))))))
 
 -- reads '=' expr
 unfoldable pub value_at : List Word → Answer Word Expression
-value_at = made (λ p. p.1) (pair (sign_at kinds.Equal) expression_at)
+value_at = made (λ p. p.1) (pair (sign_at terminals.Equal) expression_at)
 
 -- reads ['=' expr]
 unfoldable pub maybe_value_at : List Word → Answer Word (Option Expression)
-maybe_value_at = maybe (is kinds.Equal) value_at
+maybe_value_at = maybe (is terminals.Equal) value_at
 
 -- reads vartype ':' Name anns ['=' expr] ';'
-unfoldable pub variable_at : List Word → Answer Word Variable
+unfoldable pub variable_at : List Word → Answer Word VariableDeclaration
 variable_at =
     made (λ p. record { element = p.0; name = p.1.1.0; annotations = p.1.1.1.0; value = p.1.1.1.1.0 })
-    (pair variable_type_at (pair (sign_at kinds.Colon) (pair name_at (pair annotations_at (pair maybe_value_at (sign_at kinds.Semicolon))))))
+    (pair variable_type_at (pair (sign_at terminals.Colon) (pair name_at (pair annotations_at (pair maybe_value_at (sign_at terminals.Semicolon))))))
 
 -- reads 'array' '[' Int '..' Int ']' 'of'
 unfoldable pub index_at : List Word → Answer Word IndexRange
 index_at =
     made (λ p. record { first = p.1.1.0; last = p.1.1.1.1.0 })
-    (pair (sign_at kinds.Array) (pair (sign_at kinds.LeftBracket) (pair int_at (pair (sign_at kinds.DotDot) (pair int_at (pair (sign_at kinds.RightBracket) (sign_at kinds.Of)))))))
+    (pair (sign_at terminals.Array) (pair (sign_at terminals.LeftBracket) (pair int_at (pair (sign_at terminals.DotDot) (pair int_at (pair (sign_at terminals.RightBracket) (sign_at terminals.Of)))))))
 
 -- reads vartype ':' Name anns '=' expr ';'
 unfoldable pub variable_entries_at : List Word → Answer Word VariableEntries
 variable_entries_at =
     made (λ p. record { element = p.0; name = p.1.1.0; annotations = p.1.1.1.0; value = p.1.1.1.1.0 })
-    (pair variable_type_at (pair (sign_at kinds.Colon) (pair name_at (pair annotations_at (pair value_at (sign_at kinds.Semicolon))))))
+    (pair variable_type_at (pair (sign_at terminals.Colon) (pair name_at (pair annotations_at (pair value_at (sign_at terminals.Semicolon))))))
 
 -- reads what stands behind 'of' in the declaration of an array
 unfoldable pub entries_at : List Word → Answer Word Entries
-entries_at = either (is kinds.Var) (made (λ v. entries.Variables v) variable_entries_at) (made (λ p. entries.Parameters p) parameter_at)
+entries_at = either (is terminals.Var) (made (λ v. entries.Variables v) variable_entries_at) (made (λ p. entries.Parameters p) parameter_at)
 
 -- an array of the entries
 abbrev pub array_of : IndexRange × Entries → Declaration
@@ -89,20 +89,20 @@ array_at = made array_of (pair index_at entries_at)
 -- reads a declaration
 unfoldable pub declaration_at : List Word → Answer Word Declaration
 declaration_at =
-    either (is kinds.Array) array_at
-    (either (is kinds.Var) (made (λ v. declarations.Variable v) variable_at) (made (λ p. declarations.Parameter p) parameter_at))
+    either (is terminals.Array) array_at
+    (either (is terminals.Var) (made (λ v. declarations.Variable v) variable_at) (made (λ p. declarations.Parameter p) parameter_at))
 
 -- reads ',' expr
 abbrev pub more_expressions_at : List Word → Answer Word Expression
-more_expressions_at = behind (sign_at kinds.Comma) expression_at
+more_expressions_at = behind (sign_at terminals.Comma) expression_at
 
 -- reads expr {',' expr}*
 unfoldable pub expressions_at : List Word → Answer Word (List Expression)
-expressions_at = listed (is kinds.Comma) (sign_at kinds.Comma) expression_at
+expressions_at = listed (is terminals.Comma) (sign_at terminals.Comma) expression_at
 
 -- an expression may begin with the word
 abbrev pub leads_expression : Word → Bool
-leads_expression w = is kinds.LeftBracket w || leads_basic w
+leads_expression w = is terminals.LeftBracket w || leads_basic w
 
 -- reads [expr {',' expr}*]
 unfoldable pub some_expressions_at : List Word → Answer Word (List Expression)
@@ -112,13 +112,13 @@ some_expressions_at = either leads_expression expressions_at (made (λ _. []) no
 unfoldable pub constraint_at : List Word → Answer Word Constraint
 constraint_at =
     made (λ p. record { name = p.1.0; arguments = p.1.1.1.0; annotations = p.1.1.1.1.1.0 })
-    (pair (sign_at kinds.Constraint) (pair name_at (pair (sign_at kinds.LeftParen) (pair some_expressions_at (pair (sign_at kinds.RightParen) (pair annotations_at (sign_at kinds.Semicolon)))))))
+    (pair (sign_at terminals.Constraint) (pair name_at (pair (sign_at terminals.LeftParen) (pair some_expressions_at (pair (sign_at terminals.RightParen) (pair annotations_at (sign_at terminals.Semicolon)))))))
 
 -- reads 'satisfy' | 'minimize' Name | 'maximize' Name
-unfoldable pub goal_at : List Word → Answer Word Goal
+unfoldable pub goal_at : List Word → Answer Word SolveGoal
 goal_at =
-    either (is kinds.Satisfy) (made (λ _. goals.Satisfy) (sign_at kinds.Satisfy))
-    (either (is kinds.Minimize) (made (λ p. goals.Minimize p.1) (pair (sign_at kinds.Minimize) name_at)) (made (λ p. goals.Maximize p.1) (pair (sign_at kinds.Maximize) name_at)))
+    either (is terminals.Satisfy) (made (λ _. goals.Satisfy) (sign_at terminals.Satisfy))
+    (either (is terminals.Minimize) (made (λ p. goals.Minimize p.1) (pair (sign_at terminals.Minimize) name_at)) (made (λ p. goals.Maximize p.1) (pair (sign_at terminals.Maximize) name_at)))
 
 -- reads the word `solve`
 unfoldable pub solve_word_at : List Word → Answer Word ℕ
@@ -127,15 +127,15 @@ solve_word_at = one solve_worth
 -- reads 'solve' anns goal ';'
 unfoldable pub solve_at : List Word → Answer Word Solve
 solve_at =
-    made (λ p. record { at = p.0; annotations = p.1.0; goal = p.1.1.0 }) (pair solve_word_at (pair annotations_at (pair goal_at (sign_at kinds.Semicolon))))
+    made (λ p. record { at = p.0; annotations = p.1.0; goal = p.1.1.0 }) (pair solve_word_at (pair annotations_at (pair goal_at (sign_at terminals.Semicolon))))
 
 -- a declaration may begin with the word
 abbrev pub leads_declaration : Word → Bool
-leads_declaration w = is kinds.Array w || (is kinds.Var w || (is kinds.Bool w || (is kinds.IntWord w || (is kinds.FloatWord w || is kinds.Set w))))
+leads_declaration w = is terminals.Array w || (is terminals.Var w || (is terminals.Bool w || (is terminals.IntWord w || (is terminals.FloatWord w || is terminals.Set w))))
 
 -- reads {predicate}*
 abbrev pub predicates_at : List Word → Answer Word (List Predicate)
-predicates_at = many (is kinds.Predicate) predicate_at
+predicates_at = many (is terminals.Predicate) predicate_at
 
 -- reads {decl}*
 abbrev pub declarations_at : List Word → Answer Word (List Declaration)
@@ -143,7 +143,7 @@ declarations_at = many leads_declaration declaration_at
 
 -- reads {constraint}*
 abbrev pub constraints_at : List Word → Answer Word (List Constraint)
-constraints_at = many (is kinds.Constraint) constraint_at
+constraints_at = many (is terminals.Constraint) constraint_at
 
 -- reads {predicate}* {decl}* {constraint}* solve
 unfoldable pub items_at : List Word → Answer Word Items

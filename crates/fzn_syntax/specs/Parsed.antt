@@ -1,7 +1,7 @@
 -- What parsing answers: the items, or the place where the words stop to begin any.
 use Rattle.std.specs.Prelude.{◌≡◌, ℕ, List, [], ◌∷◌, Result, Ok, Err}
 use Rattle.reading.specs.Places.{FailsAt}
-use Rattle.fzn_syntax.specs.declared.word.Word.{Word}
+use Rattle.fzn_words.specs.declared.word.Word.{Word}
 use Rattle.fzn_syntax.specs.declared.error.SyntaxError.{SyntaxError}
 use Rattle.fzn_syntax.specs.declared.error.SyntaxError.TheVariants.{Unexpected, Memory}
 use Rattle.fzn_syntax.specs.declared.items.Items.{Items}

@@ -3,7 +3,7 @@ use Rattle.std.specs.Prelude.{ℕ, List, Ok}
 use Rattle.fzn_lex.specs.declared.tokens.Token.{Token}
 use Rattle.fzn_lex.specs.Cutting.{IsLexed}
 use Rattle.fzn_syntax.specs.declared.items.Items.{Items}
-use Rattle.fzn_syntax.specs.Words.{words}
+use Rattle.fzn_words.specs.Words.{words}
 use Rattle.fzn_syntax.specs.Items.{AreItems}
 
 -- the items of some text

@@ -2,14 +2,14 @@
 use Rattle.std.specs.Prelude.{ℕ, Bool, true, false, ◌==◌, List, [], ◌∷◌, Option, Some, None, if◌then◌else◌}
 use Rattle.reading.specs.Readers.{Answer, one, pair, made}
 use Rattle.reading.specs.Machine.{run}
-use Rattle.fzn_syntax.specs.declared.kind.Kind.TheVariants as kinds
-use Rattle.fzn_syntax.specs.declared.word.Word.{Word}
+use Rattle.fzn_words.specs.declared.terminal.Terminal.TheVariants as terminals
+use Rattle.fzn_words.specs.declared.word.Word.{Word}
 use Rattle.fzn_syntax.specs.declared.turn.Place.{Place}
 use Rattle.fzn_syntax.specs.declared.turn.Place.TheVariants as places
 use Rattle.fzn_syntax.specs.declared.turn.Turn.{Turn}
 use Rattle.fzn_syntax.specs.declared.turn.Turn.TheVariants as turns
 use Rattle.fzn_syntax.specs.Position.{Position}
-use Rattle.fzn_syntax.specs.Words.{code, kind, is}
+use Rattle.fzn_words.specs.Words.{code, terminal, is}
 
 -- the code of what closes a parenthesis, or a bracket
 abbrev pub closer : Bool → ℕ
@@ -62,7 +62,7 @@ moved (turns.Push inner) paren below = Some (Some (record { place = places.First
 
 -- what a word makes of a position
 abbrev pub step : Position → Word → Option (Option Position)
-step p w = moved (turn p.place p.paren (code (kind w))) p.paren p.below
+step p w = moved (turn p.place p.paren (code (terminal w))) p.paren p.below
 
 -- behind the first parenthesis
 abbrev pub opened : Position
@@ -70,7 +70,7 @@ opened = record { place = places.First; paren = true; below = [] }
 
 -- a word of the kind, itself
 abbrev pub itself : Word → Option Word
-itself w = if is kinds.LeftParen w then Some w else None
+itself w = if is terminals.LeftParen w then Some w else None
 
 -- reads [arg {',' arg}*] ')'
 abbrev pub inside_at : List Word → Answer Word (List Word)

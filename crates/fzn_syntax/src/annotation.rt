@@ -1,17 +1,16 @@
 //! Annotations.
 ghost use Rattle.std.specs.Prelude.{◌≡◌};
 ghost use Rattle.reading.specs.Gives.{Gives};
-ghost use Rattle.fzn_syntax.specs.Words.{words};
+ghost use Rattle.fzn_words.specs.Words.{words};
 ghost use Rattle.fzn_syntax.specs.ItemReading.{maybe_arguments_at, annotation_at, annotations_at};
 
 use crate::arguments::read_arguments;
 use crate::identifier::{Identifier, read_name};
-use crate::kind::Kind;
 use crate::sequence::Sequence;
 use crate::sign::{next_is, read_sign};
-use crate::word::Word;
 use fzn_lex::Token;
-use reading::ReadError;
+use fzn_words::{Terminal, Word};
+use reading::ParseError;
 use std::alloc::Global;
 
 /// An annotation. Its arguments are kept as they are written, with their parentheses.
@@ -26,10 +25,10 @@ fn read_maybe_arguments<'a>(
     alloc: Global,
     bytes: &[u8],
     tokens: &'a [Token],
-) -> Result<(Option<Sequence<Word>>, &'a [Token]), ReadError>
+) -> Result<(Option<Sequence<Word>>, &'a [Token]), ParseError>
     ensures { Gives (λ x. (x.0, words bytes.now x.1.now)) result (maybe_arguments_at (words bytes.now tokens.now)) }
 {
-    if next_is(Kind::LeftParen, bytes, tokens) {
+    if next_is(Terminal::LeftParen, bytes, tokens) {
         let (arguments, rest) = read_arguments(alloc, bytes, tokens)?;
         return Ok((Some(arguments), rest));
     }
@@ -41,10 +40,10 @@ fn read_annotation<'a>(
     alloc: Global,
     bytes: &[u8],
     tokens: &'a [Token],
-) -> Result<(Annotation, &'a [Token]), ReadError>
+) -> Result<(Annotation, &'a [Token]), ParseError>
     ensures { Gives (λ x. (x.0, words bytes.now x.1.now)) result (annotation_at (words bytes.now tokens.now)) }
 {
-    let rest = read_sign(Kind::DoubleColon, bytes, tokens)?;
+    let rest = read_sign(Terminal::DoubleColon, bytes, tokens)?;
     let (name, rest) = read_name(alloc, bytes, rest)?;
     let (arguments, rest) = read_maybe_arguments(alloc, bytes, rest)?;
     Ok((Annotation { name, arguments }, rest))
@@ -54,12 +53,12 @@ pub(crate) fn read_annotations<'a>(
     alloc: Global,
     bytes: &[u8],
     tokens: &'a [Token],
-) -> Result<(Sequence<Annotation>, &'a [Token]), ReadError>
+) -> Result<(Sequence<Annotation>, &'a [Token]), ParseError>
     ensures { Gives (λ x. (x.0, words bytes.now x.1.now)) result (annotations_at (words bytes.now tokens.now)) }
 {
     let mut annotations = Vec::new(alloc);
     let mut rest = tokens;
-    'more: while next_is(Kind::DoubleColon, bytes, rest) {
+    'more: while next_is(Terminal::DoubleColon, bytes, rest) {
         let (annotation, after) = read_annotation(alloc, bytes, rest)?;
         annotations.push(annotation)?;
         rest = after;

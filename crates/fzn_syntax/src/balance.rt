@@ -1,18 +1,17 @@
 //! The inside of a predicate: any words whose brackets match.
 ghost use Rattle.std.specs.Prelude.{◌≡◌, ◌==◌, ◌∷◌, Some, IfOk};
 ghost use Rattle.reading.specs.Gives.{Gives};
-ghost use Rattle.fzn_syntax.specs.Words.{code, words};
+ghost use Rattle.fzn_words.specs.Words.{code, words};
 ghost use Rattle.fzn_syntax.specs.Moves.{IsMoved};
 ghost use Rattle.fzn_syntax.specs.Balance.{closing, covered, uncovered, around_by, enclosed, body_at};
 
 use crate::arguments::read_paren;
 use crate::bracket::{Bracket, closing, is_inert};
-use crate::kind::{Kind, code};
 use crate::sequence::Sequence;
 use crate::turn::Moved;
-use crate::word::{Word, kind_of, split_first, word_of};
 use fzn_lex::Token;
-use reading::ReadError;
+use fzn_words::{Terminal, Word, code, split_first, terminal_of, word_of};
+use reading::ParseError;
 use std::alloc::{AllocError, Global};
 use std::marker::Model;
 
@@ -62,28 +61,28 @@ impl Balance {
         }
     }
 
-    fn closes(&self, kind: Kind) -> bool
-        ensures { result ≡ (code kind == code (closing self.now.bracket)) }
+    fn closes(&self, terminal: Terminal) -> bool
+        ensures { result ≡ (code terminal == code (closing self.now.bracket)) }
     {
-        code(kind) == code(closing(self.bracket))
+        code(terminal) == code(closing(self.bracket))
     }
 
-    fn take(&mut self, kind: Kind) -> Result<Moved, AllocError>
-        ensures { IfOk result (λ m. IsMoved m (around_by self.old (code kind)) self.new) }
+    fn take(&mut self, terminal: Terminal) -> Result<Moved, AllocError>
+        ensures { IfOk result (λ m. IsMoved m (around_by self.old (code terminal)) self.new) }
     {
-        if code(kind) == code(Kind::LeftParen) {
+        if code(terminal) == code(Terminal::LeftParen) {
             return self.open(Bracket::Paren);
         }
-        if code(kind) == code(Kind::LeftBracket) {
+        if code(terminal) == code(Terminal::LeftBracket) {
             return self.open(Bracket::Square);
         }
-        if code(kind) == code(Kind::LeftBrace) {
+        if code(terminal) == code(Terminal::LeftBrace) {
             return self.open(Bracket::Brace);
         }
-        if self.closes(kind) {
+        if self.closes(terminal) {
             return Ok(self.close());
         }
-        if is_inert(kind) {
+        if is_inert(terminal) {
             return Ok(Moved::On);
         }
         Ok(Moved::Stop)
@@ -95,7 +94,7 @@ pub(crate) fn read_body<'a>(
     alloc: Global,
     bytes: &[u8],
     tokens: &'a [Token],
-) -> Result<(Sequence<Word>, &'a [Token]), ReadError>
+) -> Result<(Sequence<Word>, &'a [Token]), ParseError>
     ensures { Gives (λ x. (x.0, words bytes.now x.1.now)) result (body_at (words bytes.now tokens.now)) }
 {
     let (paren, after) = read_paren(alloc, bytes, tokens)?;
@@ -104,8 +103,8 @@ pub(crate) fn read_body<'a>(
     let mut balance = Balance::enclosed(alloc);
     let mut rest = after;
     'words: while let Some((token, after)) = split_first(rest) {
-        match balance.take(kind_of(bytes, token))? {
-            Moved::Stop => return Err(ReadError::Stuck(rest.len())),
+        match balance.take(terminal_of(bytes, token))? {
+            Moved::Stop => return Err(ParseError::Stuck(rest.len())),
             Moved::Done => {
                 flat.push(word_of(alloc, bytes, token)?)?;
                 return Ok((Sequence::from_vec(flat), after));
@@ -116,5 +115,5 @@ pub(crate) fn read_body<'a>(
             }
         }
     }
-    Err(ReadError::Stuck(0))
+    Err(ParseError::Stuck(0))
 }

@@ -1,9 +1,10 @@
 //! Brackets that must match.
 ghost use Rattle.std.specs.Prelude.{◌≡◌};
-ghost use Rattle.fzn_syntax.specs.Words.{code};
+ghost use Rattle.fzn_words.specs.Words.{code};
 ghost use Rattle.fzn_syntax.specs.Balance.{closing, is_inert};
 
-use crate::kind::Kind;
+use fzn_words::Terminal;
+
 
 #[derive(Clone, Copy, Debug, PartialEq, Eq, Drop)]
 pub enum Bracket {
@@ -12,50 +13,50 @@ pub enum Bracket {
     Brace,
 }
 
-pub(crate) fn closing(bracket: Bracket) -> Kind
+pub(crate) fn closing(bracket: Bracket) -> Terminal
     ensures { result ≡ closing bracket }
 {
     match bracket {
-        Bracket::Paren => Kind::RightParen,
-        Bracket::Square => Kind::RightBracket,
-        Bracket::Brace => Kind::RightBrace,
+        Bracket::Paren => Terminal::RightParen,
+        Bracket::Square => Terminal::RightBracket,
+        Bracket::Brace => Terminal::RightBrace,
     }
 }
 
-pub(crate) fn is_inert(kind: Kind) -> bool
-    ensures { result ≡ is_inert (code kind) }
+pub(crate) fn is_inert(terminal: Terminal) -> bool
+    ensures { result ≡ is_inert (code terminal) }
 {
-    match kind {
-        Kind::LeftParen
-        | Kind::RightParen
-        | Kind::LeftBracket
-        | Kind::RightBracket
-        | Kind::LeftBrace
-        | Kind::RightBrace
-        | Kind::Semicolon => false,
-        Kind::Name
-        | Kind::Float
-        | Kind::Text
-        | Kind::Int
-        | Kind::Comma
-        | Kind::Colon
-        | Kind::DoubleColon
-        | Kind::Equal
-        | Kind::DotDot
-        | Kind::Array
-        | Kind::Bool
-        | Kind::Constraint
-        | Kind::False
-        | Kind::FloatWord
-        | Kind::IntWord
-        | Kind::Maximize
-        | Kind::Minimize
-        | Kind::Of
-        | Kind::Predicate
-        | Kind::Satisfy
-        | Kind::Set
-        | Kind::Solve
-        | Kind::True
-        | Kind::Var => true,
+    match terminal {
+        Terminal::LeftParen
+        | Terminal::RightParen
+        | Terminal::LeftBracket
+        | Terminal::RightBracket
+        | Terminal::LeftBrace
+        | Terminal::RightBrace
+        | Terminal::Semicolon => false,
+        Terminal::Name
+        | Terminal::Float
+        | Terminal::Text
+        | Terminal::Int
+        | Terminal::Comma
+        | Terminal::Colon
+        | Terminal::DoubleColon
+        | Terminal::Equal
+        | Terminal::DotDot
+        | Terminal::Array
+        | Terminal::Bool
+        | Terminal::Constraint
+        | Terminal::False
+        | Terminal::FloatWord
+        | Terminal::IntWord
+        | Terminal::Maximize
+        | Terminal::Minimize
+        | Terminal::Of
+        | Terminal::Predicate
+        | Terminal::Satisfy
+        | Terminal::Set
+        | Terminal::Solve
+        | Terminal::True
+        | Terminal::Var => true,
     }
 }

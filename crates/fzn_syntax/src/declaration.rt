@@ -2,19 +2,19 @@
 ghost use Rattle.std.specs.Prelude.{◌≡◌};
 ghost use Rattle.reading.specs.Gives.{Gives};
 ghost use Rattle.reading.specs.Readers.{begins};
-ghost use Rattle.fzn_syntax.specs.Words.{words};
+ghost use Rattle.fzn_words.specs.Words.{words};
 ghost use Rattle.fzn_syntax.specs.ItemReading.{parameter_at, value_at, maybe_value_at, variable_at, index_at, variable_entries_at, entries_at, array_of, array_at, declaration_at, leads_declaration, declarations_at};
 
 use crate::annotation::{Annotation, read_annotations};
 use crate::element::{ParameterType, VariableType, read_parameter_type, read_variable_type};
 use crate::expression::{Expression, read_expression};
 use crate::identifier::{Identifier, read_name};
-use crate::kind::Kind;
 use crate::number::read_int;
 use crate::sequence::Sequence;
 use crate::sign::{next_is, read_sign};
 use fzn_lex::Token;
-use reading::ReadError;
+use fzn_words::Terminal;
+use reading::ParseError;
 use std::alloc::Global;
 
 #[derive(Drop)]
@@ -25,7 +25,7 @@ pub struct Parameter {
 }
 
 #[derive(Drop)]
-pub struct Variable {
+pub struct VariableDeclaration {
     pub element: VariableType,
     pub name: Identifier,
     pub annotations: Sequence<Annotation>,
@@ -58,7 +58,7 @@ pub struct VariableArray {
 #[derive(Drop)]
 pub enum Declaration {
     Parameter(Parameter),
-    Variable(Variable),
+    Variable(VariableDeclaration),
     ParameterArray(ParameterArray),
     VariableArray(VariableArray),
 }
@@ -84,15 +84,15 @@ fn read_parameter<'a>(
     alloc: Global,
     bytes: &[u8],
     tokens: &'a [Token],
-) -> Result<(Parameter, &'a [Token]), ReadError>
+) -> Result<(Parameter, &'a [Token]), ParseError>
     ensures { Gives (λ x. (x.0, words bytes.now x.1.now)) result (parameter_at (words bytes.now tokens.now)) }
 {
     let (element, rest) = read_parameter_type(alloc, bytes, tokens)?;
-    let rest = read_sign(Kind::Colon, bytes, rest)?;
+    let rest = read_sign(Terminal::Colon, bytes, rest)?;
     let (name, rest) = read_name(alloc, bytes, rest)?;
-    let rest = read_sign(Kind::Equal, bytes, rest)?;
+    let rest = read_sign(Terminal::Equal, bytes, rest)?;
     let (value, rest) = read_expression(alloc, bytes, rest)?;
-    let rest = read_sign(Kind::Semicolon, bytes, rest)?;
+    let rest = read_sign(Terminal::Semicolon, bytes, rest)?;
     let parameter = Parameter {
         element,
         name,
@@ -106,10 +106,10 @@ fn read_value<'a>(
     alloc: Global,
     bytes: &[u8],
     tokens: &'a [Token],
-) -> Result<(Expression, &'a [Token]), ReadError>
+) -> Result<(Expression, &'a [Token]), ParseError>
     ensures { Gives (λ x. (x.0, words bytes.now x.1.now)) result (value_at (words bytes.now tokens.now)) }
 {
-    let rest = read_sign(Kind::Equal, bytes, tokens)?;
+    let rest = read_sign(Terminal::Equal, bytes, tokens)?;
     let (value, rest) = read_expression(alloc, bytes, rest)?;
     Ok((value, rest))
 }
@@ -119,10 +119,10 @@ fn read_maybe_value<'a>(
     alloc: Global,
     bytes: &[u8],
     tokens: &'a [Token],
-) -> Result<(Option<Expression>, &'a [Token]), ReadError>
+) -> Result<(Option<Expression>, &'a [Token]), ParseError>
     ensures { Gives (λ x. (x.0, words bytes.now x.1.now)) result (maybe_value_at (words bytes.now tokens.now)) }
 {
-    if next_is(Kind::Equal, bytes, tokens) {
+    if next_is(Terminal::Equal, bytes, tokens) {
         let (value, rest) = read_value(alloc, bytes, tokens)?;
         return Ok((Some(value), rest));
     }
@@ -134,16 +134,16 @@ fn read_variable<'a>(
     alloc: Global,
     bytes: &[u8],
     tokens: &'a [Token],
-) -> Result<(Variable, &'a [Token]), ReadError>
+) -> Result<(VariableDeclaration, &'a [Token]), ParseError>
     ensures { Gives (λ x. (x.0, words bytes.now x.1.now)) result (variable_at (words bytes.now tokens.now)) }
 {
     let (element, rest) = read_variable_type(alloc, bytes, tokens)?;
-    let rest = read_sign(Kind::Colon, bytes, rest)?;
+    let rest = read_sign(Terminal::Colon, bytes, rest)?;
     let (name, rest) = read_name(alloc, bytes, rest)?;
     let (annotations, rest) = read_annotations(alloc, bytes, rest)?;
     let (value, rest) = read_maybe_value(alloc, bytes, rest)?;
-    let rest = read_sign(Kind::Semicolon, bytes, rest)?;
-    let variable = Variable {
+    let rest = read_sign(Terminal::Semicolon, bytes, rest)?;
+    let variable = VariableDeclaration {
         element,
         name,
         annotations,
@@ -153,16 +153,16 @@ fn read_variable<'a>(
 }
 
 #[tactic(auto, unfolding(crate::specs::ItemReading::index_at))]
-fn read_index<'a>(bytes: &[u8], tokens: &'a [Token]) -> Result<(IndexRange, &'a [Token]), ReadError>
+fn read_index<'a>(bytes: &[u8], tokens: &'a [Token]) -> Result<(IndexRange, &'a [Token]), ParseError>
     ensures { Gives (λ x. (x.0, words bytes.now x.1.now)) result (index_at (words bytes.now tokens.now)) }
 {
-    let rest = read_sign(Kind::Array, bytes, tokens)?;
-    let rest = read_sign(Kind::LeftBracket, bytes, rest)?;
+    let rest = read_sign(Terminal::Array, bytes, tokens)?;
+    let rest = read_sign(Terminal::LeftBracket, bytes, rest)?;
     let (first, rest) = read_int(bytes, rest)?;
-    let rest = read_sign(Kind::DotDot, bytes, rest)?;
+    let rest = read_sign(Terminal::DotDot, bytes, rest)?;
     let (last, rest) = read_int(bytes, rest)?;
-    let rest = read_sign(Kind::RightBracket, bytes, rest)?;
-    let rest = read_sign(Kind::Of, bytes, rest)?;
+    let rest = read_sign(Terminal::RightBracket, bytes, rest)?;
+    let rest = read_sign(Terminal::Of, bytes, rest)?;
     Ok((IndexRange { first, last }, rest))
 }
 
@@ -171,15 +171,15 @@ fn read_variable_entries<'a>(
     alloc: Global,
     bytes: &[u8],
     tokens: &'a [Token],
-) -> Result<(VariableEntries, &'a [Token]), ReadError>
+) -> Result<(VariableEntries, &'a [Token]), ParseError>
     ensures { Gives (λ x. (x.0, words bytes.now x.1.now)) result (variable_entries_at (words bytes.now tokens.now)) }
 {
     let (element, rest) = read_variable_type(alloc, bytes, tokens)?;
-    let rest = read_sign(Kind::Colon, bytes, rest)?;
+    let rest = read_sign(Terminal::Colon, bytes, rest)?;
     let (name, rest) = read_name(alloc, bytes, rest)?;
     let (annotations, rest) = read_annotations(alloc, bytes, rest)?;
     let (value, rest) = read_value(alloc, bytes, rest)?;
-    let rest = read_sign(Kind::Semicolon, bytes, rest)?;
+    let rest = read_sign(Terminal::Semicolon, bytes, rest)?;
     let entries = VariableEntries {
         element,
         name,
@@ -194,10 +194,10 @@ fn read_entries<'a>(
     alloc: Global,
     bytes: &[u8],
     tokens: &'a [Token],
-) -> Result<(Entries, &'a [Token]), ReadError>
+) -> Result<(Entries, &'a [Token]), ParseError>
     ensures { Gives (λ x. (x.0, words bytes.now x.1.now)) result (entries_at (words bytes.now tokens.now)) }
 {
-    if next_is(Kind::Var, bytes, tokens) {
+    if next_is(Terminal::Var, bytes, tokens) {
         let (entries, rest) = read_variable_entries(alloc, bytes, tokens)?;
         return Ok((Entries::Variables(entries), rest));
     }
@@ -228,7 +228,7 @@ fn read_array<'a>(
     alloc: Global,
     bytes: &[u8],
     tokens: &'a [Token],
-) -> Result<(Declaration, &'a [Token]), ReadError>
+) -> Result<(Declaration, &'a [Token]), ParseError>
     ensures { Gives (λ x. (x.0, words bytes.now x.1.now)) result (array_at (words bytes.now tokens.now)) }
 {
     let (index, rest) = read_index(bytes, tokens)?;
@@ -241,13 +241,13 @@ fn read_declaration<'a>(
     alloc: Global,
     bytes: &[u8],
     tokens: &'a [Token],
-) -> Result<(Declaration, &'a [Token]), ReadError>
+) -> Result<(Declaration, &'a [Token]), ParseError>
     ensures { Gives (λ x. (x.0, words bytes.now x.1.now)) result (declaration_at (words bytes.now tokens.now)) }
 {
-    if next_is(Kind::Array, bytes, tokens) {
+    if next_is(Terminal::Array, bytes, tokens) {
         return read_array(alloc, bytes, tokens);
     }
-    if next_is(Kind::Var, bytes, tokens) {
+    if next_is(Terminal::Var, bytes, tokens) {
         let (variable, rest) = read_variable(alloc, bytes, tokens)?;
         return Ok((Declaration::Variable(variable), rest));
     }
@@ -258,19 +258,19 @@ fn read_declaration<'a>(
 fn next_leads_declaration(bytes: &[u8], tokens: &[Token]) -> bool
     ensures { result ≡ begins leads_declaration (words bytes.now tokens.now) }
 {
-    next_is(Kind::Array, bytes, tokens)
-        || next_is(Kind::Var, bytes, tokens)
-        || next_is(Kind::Bool, bytes, tokens)
-        || next_is(Kind::IntWord, bytes, tokens)
-        || next_is(Kind::FloatWord, bytes, tokens)
-        || next_is(Kind::Set, bytes, tokens)
+    next_is(Terminal::Array, bytes, tokens)
+        || next_is(Terminal::Var, bytes, tokens)
+        || next_is(Terminal::Bool, bytes, tokens)
+        || next_is(Terminal::IntWord, bytes, tokens)
+        || next_is(Terminal::FloatWord, bytes, tokens)
+        || next_is(Terminal::Set, bytes, tokens)
 }
 
 pub(crate) fn read_declarations<'a>(
     alloc: Global,
     bytes: &[u8],
     tokens: &'a [Token],
-) -> Result<(Sequence<Declaration>, &'a [Token]), ReadError>
+) -> Result<(Sequence<Declaration>, &'a [Token]), ParseError>
     ensures { Gives (λ x. (x.0, words bytes.now x.1.now)) result (declarations_at (words bytes.now tokens.now)) }
 {
     let mut declarations = Vec::new(alloc);

@@ -1,15 +1,15 @@
 //! Types.
 ghost use Rattle.std.specs.Prelude.{◌≡◌};
 ghost use Rattle.reading.specs.Gives.{Gives};
-ghost use Rattle.fzn_syntax.specs.Words.{words};
+ghost use Rattle.fzn_words.specs.Words.{words};
 ghost use Rattle.fzn_syntax.specs.Reading.{element_at, set_of_at, parameter_type_at, domain_at, variable_type_at};
 
-use crate::kind::Kind;
 use crate::number::{Bounds, Number, read_bounds, read_set};
 use crate::sequence::Sequence;
 use crate::sign::{next_is, read_sign};
 use fzn_lex::Token;
-use reading::ReadError;
+use fzn_words::Terminal;
+use reading::ParseError;
 use std::alloc::Global;
 
 /// What a variable takes, or what a set holds.
@@ -43,18 +43,18 @@ fn read_element<'a>(
     alloc: Global,
     bytes: &[u8],
     tokens: &'a [Token],
-) -> Result<(Element, &'a [Token]), ReadError>
+) -> Result<(Element, &'a [Token]), ParseError>
     ensures { Gives (λ x. (x.0, words bytes.now x.1.now)) result (element_at (words bytes.now tokens.now)) }
 {
-    if next_is(Kind::IntWord, bytes, tokens) {
-        let rest = read_sign(Kind::IntWord, bytes, tokens)?;
+    if next_is(Terminal::IntWord, bytes, tokens) {
+        let rest = read_sign(Terminal::IntWord, bytes, tokens)?;
         return Ok((Element::Int, rest));
     }
-    if next_is(Kind::FloatWord, bytes, tokens) {
-        let rest = read_sign(Kind::FloatWord, bytes, tokens)?;
+    if next_is(Terminal::FloatWord, bytes, tokens) {
+        let rest = read_sign(Terminal::FloatWord, bytes, tokens)?;
         return Ok((Element::Float, rest));
     }
-    if next_is(Kind::LeftBrace, bytes, tokens) {
+    if next_is(Terminal::LeftBrace, bytes, tokens) {
         let (numbers, rest) = read_set(alloc, bytes, tokens)?;
         return Ok((Element::Set(numbers), rest));
     }
@@ -67,11 +67,11 @@ fn read_set_of<'a>(
     alloc: Global,
     bytes: &[u8],
     tokens: &'a [Token],
-) -> Result<(Element, &'a [Token]), ReadError>
+) -> Result<(Element, &'a [Token]), ParseError>
     ensures { Gives (λ x. (x.0, words bytes.now x.1.now)) result (set_of_at (words bytes.now tokens.now)) }
 {
-    let rest = read_sign(Kind::Set, bytes, tokens)?;
-    let rest = read_sign(Kind::Of, bytes, rest)?;
+    let rest = read_sign(Terminal::Set, bytes, tokens)?;
+    let rest = read_sign(Terminal::Of, bytes, rest)?;
     let (element, rest) = read_element(alloc, bytes, rest)?;
     Ok((element, rest))
 }
@@ -81,19 +81,19 @@ pub(crate) fn read_parameter_type<'a>(
     alloc: Global,
     bytes: &[u8],
     tokens: &'a [Token],
-) -> Result<(ParameterType, &'a [Token]), ReadError>
+) -> Result<(ParameterType, &'a [Token]), ParseError>
     ensures { Gives (λ x. (x.0, words bytes.now x.1.now)) result (parameter_type_at (words bytes.now tokens.now)) }
 {
-    if next_is(Kind::Bool, bytes, tokens) {
-        let rest = read_sign(Kind::Bool, bytes, tokens)?;
+    if next_is(Terminal::Bool, bytes, tokens) {
+        let rest = read_sign(Terminal::Bool, bytes, tokens)?;
         return Ok((ParameterType::Bool, rest));
     }
-    if next_is(Kind::IntWord, bytes, tokens) {
-        let rest = read_sign(Kind::IntWord, bytes, tokens)?;
+    if next_is(Terminal::IntWord, bytes, tokens) {
+        let rest = read_sign(Terminal::IntWord, bytes, tokens)?;
         return Ok((ParameterType::Int, rest));
     }
-    if next_is(Kind::FloatWord, bytes, tokens) {
-        let rest = read_sign(Kind::FloatWord, bytes, tokens)?;
+    if next_is(Terminal::FloatWord, bytes, tokens) {
+        let rest = read_sign(Terminal::FloatWord, bytes, tokens)?;
         return Ok((ParameterType::Float, rest));
     }
     let (element, rest) = read_set_of(alloc, bytes, tokens)?;
@@ -105,14 +105,14 @@ fn read_domain<'a>(
     alloc: Global,
     bytes: &[u8],
     tokens: &'a [Token],
-) -> Result<(VariableType, &'a [Token]), ReadError>
+) -> Result<(VariableType, &'a [Token]), ParseError>
     ensures { Gives (λ x. (x.0, words bytes.now x.1.now)) result (domain_at (words bytes.now tokens.now)) }
 {
-    if next_is(Kind::Bool, bytes, tokens) {
-        let rest = read_sign(Kind::Bool, bytes, tokens)?;
+    if next_is(Terminal::Bool, bytes, tokens) {
+        let rest = read_sign(Terminal::Bool, bytes, tokens)?;
         return Ok((VariableType::Bool, rest));
     }
-    if next_is(Kind::Set, bytes, tokens) {
+    if next_is(Terminal::Set, bytes, tokens) {
         let (element, rest) = read_set_of(alloc, bytes, tokens)?;
         return Ok((VariableType::SetOf(element), rest));
     }
@@ -125,10 +125,10 @@ pub(crate) fn read_variable_type<'a>(
     alloc: Global,
     bytes: &[u8],
     tokens: &'a [Token],
-) -> Result<(VariableType, &'a [Token]), ReadError>
+) -> Result<(VariableType, &'a [Token]), ParseError>
     ensures { Gives (λ x. (x.0, words bytes.now x.1.now)) result (variable_type_at (words bytes.now tokens.now)) }
 {
-    let rest = read_sign(Kind::Var, bytes, tokens)?;
+    let rest = read_sign(Terminal::Var, bytes, tokens)?;
     let (domain, rest) = read_domain(alloc, bytes, rest)?;
     Ok((domain, rest))
 }

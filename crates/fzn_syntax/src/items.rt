@@ -1,7 +1,7 @@
 //! All items of a text.
 ghost use Rattle.std.specs.Prelude.{◌≡◌};
 ghost use Rattle.reading.specs.Gives.{Gives};
-ghost use Rattle.fzn_syntax.specs.Words.{words};
+ghost use Rattle.fzn_words.specs.Words.{words};
 ghost use Rattle.fzn_syntax.specs.ItemReading.{items_at, text_at};
 
 use crate::constraint::{Constraint, read_constraints};
@@ -10,7 +10,7 @@ use crate::predicate::{Predicate, read_predicates};
 use crate::sequence::Sequence;
 use crate::solve::{Solve, read_solve};
 use fzn_lex::Token;
-use reading::ReadError;
+use reading::ParseError;
 use std::alloc::Global;
 
 /// The items of a text in their order.
@@ -27,7 +27,7 @@ fn read_items<'a>(
     alloc: Global,
     bytes: &[u8],
     tokens: &'a [Token],
-) -> Result<(Items, &'a [Token]), ReadError>
+) -> Result<(Items, &'a [Token]), ParseError>
     ensures { Gives (λ x. (x.0, words bytes.now x.1.now)) result (items_at (words bytes.now tokens.now)) }
 {
     let (predicates, rest) = read_predicates(alloc, bytes, tokens)?;
@@ -48,12 +48,12 @@ pub(crate) fn read_text<'a>(
     alloc: Global,
     bytes: &[u8],
     tokens: &'a [Token],
-) -> Result<(Items, &'a [Token]), ReadError>
+) -> Result<(Items, &'a [Token]), ParseError>
     ensures { Gives (λ x. (x.0, words bytes.now x.1.now)) result (text_at (words bytes.now tokens.now)) }
 {
     let (items, rest) = read_items(alloc, bytes, tokens)?;
     match rest {
         [] => Ok((items, rest)),
-        [_, ..] => Err(ReadError::Stuck(rest.len())),
+        [_, ..] => Err(ParseError::Stuck(rest.len())),
     }
 }

@@ -12,7 +12,6 @@ mod error;
 mod expression;
 mod identifier;
 mod items;
-mod kind;
 mod nesting;
 mod number;
 mod parsing;
@@ -20,14 +19,12 @@ mod predicate;
 mod sequence;
 mod sign;
 mod solve;
-mod spelling;
 mod turn;
-mod word;
 
 pub use annotation::Annotation;
 pub use constraint::Constraint;
 pub use declaration::{
-    Declaration, IndexRange, Parameter, ParameterArray, Variable, VariableArray,
+    Declaration, IndexRange, Parameter, ParameterArray, VariableDeclaration, VariableArray,
 };
 pub use element::{Element, ParameterType, VariableType};
 pub use error::SyntaxError;
@@ -38,9 +35,7 @@ pub use number::{Bounds, Number};
 pub use parsing::{parse, tokens_have_one_answer};
 pub use predicate::Predicate;
 pub use sequence::Sequence;
-pub use solve::{Goal, Solve};
-pub use spelling::Spelling;
-pub use word::Word;
+pub use solve::{Solve, SolveGoal};
 
 #[cfg(test)]
 mod tests;

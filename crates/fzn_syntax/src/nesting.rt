@@ -1,11 +1,11 @@
 //! The brackets that are open around a place among arguments.
 ghost use Rattle.std.specs.Prelude.{◌≡◌, IfOk};
-ghost use Rattle.fzn_syntax.specs.Words.{code};
+ghost use Rattle.fzn_words.specs.Words.{code};
 ghost use Rattle.fzn_syntax.specs.Turns.{opened, moved, turn};
 ghost use Rattle.fzn_syntax.specs.Moves.{IsMoved};
 
-use crate::kind::Kind;
 use crate::turn::{Moved, Place, Turn, turn_of};
+use fzn_words::Terminal;
 use std::alloc::{AllocError, Global};
 use std::marker::Model;
 
@@ -37,10 +37,10 @@ impl Nesting {
         }
     }
 
-    pub(crate) fn take(&mut self, kind: Kind) -> Result<Moved, AllocError>
-        ensures { IfOk result (λ m. IsMoved m (moved (turn self.old.place self.old.paren (code kind)) self.old.paren self.old.below) self.new) }
+    pub(crate) fn take(&mut self, terminal: Terminal) -> Result<Moved, AllocError>
+        ensures { IfOk result (λ m. IsMoved m (moved (turn self.old.place self.old.paren (code terminal)) self.old.paren self.old.below) self.new) }
     {
-        match turn_of(self.place, self.paren, kind) {
+        match turn_of(self.place, self.paren, terminal) {
             Turn::Stop => Ok(Moved::Stop),
             Turn::Pop => match self.below.pop() {
                 None => Ok(Moved::Done),

@@ -1,12 +1,12 @@
 //! From tokens to items.
 ghost use Rattle.std.specs.Prelude.{◌≡◌, ◌-◌, ◌≤◌, length, drop};
-ghost use Rattle.fzn_syntax.specs.Words.{words};
+ghost use Rattle.fzn_words.specs.Words.{words};
 ghost use Rattle.fzn_syntax.specs.Parsed.{place_of, IsParsed, HasOneAnswer};
 
 use crate::error::SyntaxError;
 use crate::items::{Items, read_text};
 use fzn_lex::Token;
-use reading::ReadError;
+use reading::ParseError;
 use std::alloc::Global;
 
 // The first byte of the token from which on so many are left.
@@ -26,8 +26,8 @@ pub fn parse(alloc: Global, bytes: &[u8], tokens: &[Token]) -> Result<Items, Syn
 {
     match read_text(alloc, bytes, tokens) {
         Ok((items, _)) => Ok(items),
-        Err(ReadError::Memory) => Err(SyntaxError::Memory),
-        Err(ReadError::Stuck(left)) => Err(SyntaxError::Unexpected {
+        Err(ParseError::Memory) => Err(SyntaxError::Memory),
+        Err(ParseError::Stuck(left)) => Err(SyntaxError::Unexpected {
             at: place(bytes, tokens, left),
         }),
     }

@@ -46,7 +46,7 @@ fn a_text_of_all_productions_is_read(rt: HostRuntime) -> Result<(), Fail> {
     }
     assert_eq!(rt; items.solve.annotations.len(), 1);
     assert!(rt;
-        matches!(&items.solve.goal, Goal::Minimize(n) if n.name.as_bytes() == b"g".as_slice())
+        matches!(&items.solve.goal, SolveGoal::Minimize(n) if n.name.as_bytes() == b"g".as_slice())
     );
     tokens_have_one_answer();
     Ok(())
@@ -141,7 +141,7 @@ fn brackets_nest_deep(rt: HostRuntime) -> Result<(), Fail> {
 }
 
 // Whether the variable is declared from 1.5 up to 2.
-fn has_ends(variable: &Variable) -> bool {
+fn has_ends(variable: &VariableDeclaration) -> bool {
     match &variable.element {
         VariableType::Plain(Element::Range(b)) => {
             matches!(&b.lower, Number::Float(f) if f.as_bytes() == b"1.5".as_slice())

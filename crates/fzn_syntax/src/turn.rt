@@ -1,10 +1,11 @@
 //! How arguments are followed word by word.
 ghost use Rattle.std.specs.Prelude.{◌≡◌};
-ghost use Rattle.fzn_syntax.specs.Words.{code};
+ghost use Rattle.fzn_words.specs.Words.{code};
 ghost use Rattle.fzn_syntax.specs.declared.turn.Place.TheVariants as places;
 ghost use Rattle.fzn_syntax.specs.Turns.{start, closer, finish, member, turn};
 
-use crate::kind::{Kind, code};
+use fzn_words::{Terminal, code};
+
 
 /// What may stand next.
 #[derive(Clone, Copy, Debug, PartialEq, Eq, Drop)]
@@ -51,38 +52,38 @@ pub enum Moved {
     On,
 }
 
-fn start(kind: Kind) -> Turn
-    ensures { result ≡ start (code kind) }
+fn start(terminal: Terminal) -> Turn
+    ensures { result ≡ start (code terminal) }
 {
-    match kind {
-        Kind::True | Kind::False | Kind::Text => Turn::Stay(Place::After),
-        Kind::Name => Turn::Stay(Place::Named),
-        Kind::Int | Kind::Float => Turn::Stay(Place::Number),
-        Kind::LeftBrace => Turn::Stay(Place::SetFirst),
-        Kind::LeftBracket => Turn::Push(false),
-        Kind::LeftParen
-        | Kind::RightParen
-        | Kind::RightBracket
-        | Kind::RightBrace
-        | Kind::Comma
-        | Kind::Semicolon
-        | Kind::Colon
-        | Kind::DoubleColon
-        | Kind::Equal
-        | Kind::DotDot
-        | Kind::Array
-        | Kind::Bool
-        | Kind::Constraint
-        | Kind::FloatWord
-        | Kind::IntWord
-        | Kind::Maximize
-        | Kind::Minimize
-        | Kind::Of
-        | Kind::Predicate
-        | Kind::Satisfy
-        | Kind::Set
-        | Kind::Solve
-        | Kind::Var => Turn::Stop,
+    match terminal {
+        Terminal::True | Terminal::False | Terminal::Text => Turn::Stay(Place::After),
+        Terminal::Name => Turn::Stay(Place::Named),
+        Terminal::Int | Terminal::Float => Turn::Stay(Place::Number),
+        Terminal::LeftBrace => Turn::Stay(Place::SetFirst),
+        Terminal::LeftBracket => Turn::Push(false),
+        Terminal::LeftParen
+        | Terminal::RightParen
+        | Terminal::RightBracket
+        | Terminal::RightBrace
+        | Terminal::Comma
+        | Terminal::Semicolon
+        | Terminal::Colon
+        | Terminal::DoubleColon
+        | Terminal::Equal
+        | Terminal::DotDot
+        | Terminal::Array
+        | Terminal::Bool
+        | Terminal::Constraint
+        | Terminal::FloatWord
+        | Terminal::IntWord
+        | Terminal::Maximize
+        | Terminal::Minimize
+        | Terminal::Of
+        | Terminal::Predicate
+        | Terminal::Satisfy
+        | Terminal::Set
+        | Terminal::Solve
+        | Terminal::Var => Turn::Stop,
     }
 }
 
@@ -90,109 +91,109 @@ fn closer(paren: bool) -> u8
     ensures { result ≡ closer paren }
 {
     if paren {
-        code(Kind::RightParen)
+        code(Terminal::RightParen)
     } else {
-        code(Kind::RightBracket)
+        code(Terminal::RightBracket)
     }
 }
 
-fn finish(paren: bool, kind: Kind) -> Turn
-    ensures { result ≡ finish paren (code kind) }
+fn finish(paren: bool, terminal: Terminal) -> Turn
+    ensures { result ≡ finish paren (code terminal) }
 {
-    if code(kind) == code(Kind::Comma) {
+    if code(terminal) == code(Terminal::Comma) {
         return Turn::Stay(Place::Want);
     }
-    if code(kind) == closer(paren) {
+    if code(terminal) == closer(paren) {
         return Turn::Pop;
     }
     Turn::Stop
 }
 
-fn member(kind: Kind) -> Turn
-    ensures { result ≡ member (code kind) }
+fn member(terminal: Terminal) -> Turn
+    ensures { result ≡ member (code terminal) }
 {
-    if code(kind) == code(Kind::Int) || code(kind) == code(Kind::Float) {
+    if code(terminal) == code(Terminal::Int) || code(terminal) == code(Terminal::Float) {
         return Turn::Stay(Place::SetAfter);
     }
     Turn::Stop
 }
 
 #[tactic(auto, unfolding(crate::specs::Turns::turn))]
-fn first(paren: bool, kind: Kind) -> Turn
-    ensures { result ≡ turn places.First paren (code kind) }
+fn first(paren: bool, terminal: Terminal) -> Turn
+    ensures { result ≡ turn places.First paren (code terminal) }
 {
-    if code(kind) == closer(paren) {
+    if code(terminal) == closer(paren) {
         return Turn::Pop;
     }
-    start(kind)
+    start(terminal)
 }
 
 #[tactic(auto, unfolding(crate::specs::Turns::turn))]
-fn named(paren: bool, kind: Kind) -> Turn
-    ensures { result ≡ turn places.Named paren (code kind) }
+fn named(paren: bool, terminal: Terminal) -> Turn
+    ensures { result ≡ turn places.Named paren (code terminal) }
 {
-    if code(kind) == code(Kind::LeftParen) {
+    if code(terminal) == code(Terminal::LeftParen) {
         return Turn::Push(true);
     }
-    finish(paren, kind)
+    finish(paren, terminal)
 }
 
 #[tactic(auto, unfolding(crate::specs::Turns::turn))]
-fn number(paren: bool, kind: Kind) -> Turn
-    ensures { result ≡ turn places.Number paren (code kind) }
+fn number(paren: bool, terminal: Terminal) -> Turn
+    ensures { result ≡ turn places.Number paren (code terminal) }
 {
-    if code(kind) == code(Kind::DotDot) {
+    if code(terminal) == code(Terminal::DotDot) {
         return Turn::Stay(Place::Dots);
     }
-    finish(paren, kind)
+    finish(paren, terminal)
 }
 
 #[tactic(auto, unfolding(crate::specs::Turns::turn))]
-fn dots(paren: bool, kind: Kind) -> Turn
-    ensures { result ≡ turn places.Dots paren (code kind) }
+fn dots(paren: bool, terminal: Terminal) -> Turn
+    ensures { result ≡ turn places.Dots paren (code terminal) }
 {
-    if code(kind) == code(Kind::Int) || code(kind) == code(Kind::Float) {
+    if code(terminal) == code(Terminal::Int) || code(terminal) == code(Terminal::Float) {
         return Turn::Stay(Place::After);
     }
     Turn::Stop
 }
 
 #[tactic(auto, unfolding(crate::specs::Turns::turn))]
-fn set_first(paren: bool, kind: Kind) -> Turn
-    ensures { result ≡ turn places.SetFirst paren (code kind) }
+fn set_first(paren: bool, terminal: Terminal) -> Turn
+    ensures { result ≡ turn places.SetFirst paren (code terminal) }
 {
-    if code(kind) == code(Kind::RightBrace) {
+    if code(terminal) == code(Terminal::RightBrace) {
         return Turn::Stay(Place::After);
     }
-    member(kind)
+    member(terminal)
 }
 
 #[tactic(auto, unfolding(crate::specs::Turns::turn))]
-fn set_after(paren: bool, kind: Kind) -> Turn
-    ensures { result ≡ turn places.SetAfter paren (code kind) }
+fn set_after(paren: bool, terminal: Terminal) -> Turn
+    ensures { result ≡ turn places.SetAfter paren (code terminal) }
 {
-    if code(kind) == code(Kind::Comma) {
+    if code(terminal) == code(Terminal::Comma) {
         return Turn::Stay(Place::SetWant);
     }
-    if code(kind) == code(Kind::RightBrace) {
+    if code(terminal) == code(Terminal::RightBrace) {
         return Turn::Stay(Place::After);
     }
     Turn::Stop
 }
 
 #[tactic(auto, unfolding(crate::specs::Turns::turn))]
-pub(crate) fn turn_of(place: Place, paren: bool, kind: Kind) -> Turn
-    ensures { result ≡ turn place paren (code kind) }
+pub(crate) fn turn_of(place: Place, paren: bool, terminal: Terminal) -> Turn
+    ensures { result ≡ turn place paren (code terminal) }
 {
     match place {
-        Place::First => first(paren, kind),
-        Place::Want => start(kind),
-        Place::After => finish(paren, kind),
-        Place::Named => named(paren, kind),
-        Place::Number => number(paren, kind),
-        Place::Dots => dots(paren, kind),
-        Place::SetFirst => set_first(paren, kind),
-        Place::SetWant => member(kind),
-        Place::SetAfter => set_after(paren, kind),
+        Place::First => first(paren, terminal),
+        Place::Want => start(terminal),
+        Place::After => finish(paren, terminal),
+        Place::Named => named(paren, terminal),
+        Place::Number => number(paren, terminal),
+        Place::Dots => dots(paren, terminal),
+        Place::SetFirst => set_first(paren, terminal),
+        Place::SetWant => member(terminal),
+        Place::SetAfter => set_after(paren, terminal),
     }
 }

@@ -7,7 +7,7 @@ use Rattle.chains.specs.declared.link.Link.TheVariants as places
 use Rattle.chains.specs.Chains.{link_at, Ends, here, there, IsEnd, end_at, AreEnds}
 use Rattle.fzn_syntax.specs.declared.declaration.Declaration.{Declaration}
 use Rattle.fzn_syntax.specs.declared.expression.Expression.{Expression}
-use Rattle.fzn_scope.specs.Names.{names_of, AreDifferent, IsNamed, IsPlaced}
+use Rattle.fzn_symbols.specs.Named.{names_of, AreDifferent, IsNamed, IsPlaced}
 use Rattle.fzn_values.specs.declared.literal.LiteralKind.{LiteralKind}
 use Rattle.fzn_values.specs.Literals.{is_literal, named_by, value_for, StandsFor, itself, through}
 use Rattle.fzn_values.specs.Links.{IsValueLink, IsLinkOf, AreLinks, EndsAt, is_here, leads_on, IsLiteralOf, AreLiterals}

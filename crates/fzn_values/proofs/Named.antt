@@ -6,13 +6,13 @@ use Rattle.fzn_syntax.specs.declared.expression.Basic.{Basic}
 use Rattle.fzn_syntax.specs.declared.expression.Basic.TheVariants as basics
 use Rattle.fzn_syntax.specs.declared.expression.Expression.{Expression}
 use Rattle.fzn_syntax.specs.declared.expression.Expression.TheVariants as expressions
-use Rattle.fzn_scope.specs.Names.{name_of, names_of, AreDifferent, IsNamed, IsPlaced}
-use Rattle.fzn_scope.proofs.Places.{named_at, one_named}
+use Rattle.fzn_symbols.specs.Named.{name_of, names_of, AreDifferent, IsNamed, IsPlaced}
+use Rattle.fzn_symbols.proofs.Places.{named_at, one_named}
 use Rattle.fzn_values.specs.declared.literal.LiteralKind.{LiteralKind}
 use Rattle.fzn_values.specs.declared.literal.LiteralKind.TheVariants as literals
 use Rattle.fzn_values.specs.Literals.{is_number, is_literal, name_in, named_by, value_for, StandsFor, itself, through}
 use Rattle.fzn_values.specs.Links.{EndsAt, is_here, leads_on, NameStandsFor}
-use Rattle.fzn_values.specs.Worth.{IsListOf, IsListAt}
+use Rattle.fzn_values.specs.Constants.{IsListOf, IsListAt}
 
 -- a name is that of one declaration, at one place
 pub one_place : (ds : List Declaration) (n : List ℕ) (j k : ℕ) (d e : Declaration) → AreDifferent (names_of ds) → slice_get ds j ≡ Some d → name_of d ≡ n → slice_get ds k ≡ Some e → name_of e ≡ n → j ≡ k

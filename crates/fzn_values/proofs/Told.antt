@@ -7,14 +7,14 @@ use Rattle.fzn_syntax.specs.declared.declaration.Declaration.{Declaration}
 use Rattle.fzn_syntax.specs.declared.expression.Basic.{Basic}
 use Rattle.fzn_syntax.specs.declared.expression.Expression.{Expression}
 use Rattle.fzn_syntax.specs.declared.expression.Expression.TheVariants as expressions
-use Rattle.fzn_scope.specs.Names.{names_of, AreDifferent, IsNamed, IsPlaced, IsUndeclared}
+use Rattle.fzn_symbols.specs.Named.{names_of, AreDifferent, IsNamed, IsPlaced, IsUndeclared}
 use Rattle.fzn_values.specs.declared.entry.Entry.{Entry}
 use Rattle.fzn_values.specs.declared.entry.Entry.TheVariants.{Constant, Variable}
 use Rattle.fzn_values.specs.declared.literal.LiteralKind.{LiteralKind}
 use Rattle.fzn_values.specs.declared.literal.LiteralKind.TheVariants as literals
 use Rattle.fzn_values.specs.Literals.{is_number, is_literal, name_in, named_by, value_for, StandsFor, itself}
 use Rattle.fzn_values.specs.Links.{IsValueLink, IsLiteralOf, NameStandsFor, NamesListAt}
-use Rattle.fzn_values.specs.Worth.{number, IsIntOf, IsListOf, IsListAt, AreInts, AreIntsOf, IsIntegerVariable, NamesVariableAt, IsVariableOf, IsEntryOf}
+use Rattle.fzn_values.specs.Constants.{number, IsIntOf, IsListOf, IsListAt, AreInts, AreIntsOf, IsIntegerVariable, NamesVariableAt, IsVariableOf, IsEntryOf}
 use Rattle.fzn_values.proofs.Named.{one_place, end_stands, stands_literal, written, by_name, of_name, one_literal}
 
 pub copied_some : {X : Type 0} (r : Option (Bor X)) (N : Type 0) (P : X → Type 0) (x : X) → option_copied r ≡ Some x → P x → MatchOption r N (λ y. P y.now)

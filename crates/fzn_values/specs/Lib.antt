@@ -1,3 +1,3 @@
 pub mod Literals
 pub mod Links
-pub mod Worth
+pub mod Constants

@@ -5,7 +5,7 @@ use Rattle.chains.specs.declared.link.Link.TheVariants.{End, To, Nothing}
 use Rattle.chains.specs.Chains.{link_at, end_at}
 use Rattle.fzn_syntax.specs.declared.declaration.Declaration.{Declaration}
 use Rattle.fzn_syntax.specs.declared.expression.Expression.{Expression}
-use Rattle.fzn_scope.specs.Names.{IsPlaced, IsNamed, IsUndeclared}
+use Rattle.fzn_symbols.specs.Named.{IsPlaced, IsNamed, IsUndeclared}
 use Rattle.fzn_values.specs.declared.literal.LiteralKind.{LiteralKind}
 use Rattle.fzn_values.specs.declared.literal.LiteralKind.TheVariants as literals
 use Rattle.fzn_values.specs.Literals.{is_literal, named_by, value_for, StandsFor}

@@ -8,8 +8,8 @@ use Rattle.fzn_syntax.specs.declared.expression.Basic.{Basic}
 use Rattle.fzn_syntax.specs.declared.expression.Basic.TheVariants as basics
 use Rattle.fzn_syntax.specs.declared.expression.Expression.{Expression}
 use Rattle.fzn_syntax.specs.declared.expression.Expression.TheVariants as expressions
-use Rattle.fzn_scope.specs.Bases.{is_integer}
-use Rattle.fzn_scope.specs.Names.{IsNamed}
+use Rattle.fzn_symbols.specs.Bases.{is_integer}
+use Rattle.fzn_symbols.specs.Named.{IsNamed}
 use Rattle.fzn_values.specs.declared.literal.LiteralKind.{LiteralKind}
 use Rattle.fzn_values.specs.declared.literal.LiteralKind.TheVariants as literals
 

@@ -1,13 +1,13 @@
-//! What the names of a text are worth.
+//! The values of the names of a text.
 ghost use Rattle.std.specs.Prelude.{◌≡◌, ◌↔◌, ℕ, ℤ, List, slice_get, Some, IfOk, IfSome, IsTrue, MatchOption, option_copied};
 ghost use Rattle.fzn_syntax.specs.declared.declaration.Declaration.{Declaration};
 ghost use Rattle.fzn_syntax.specs.declared.expression.Basic.{Basic};
 ghost use Rattle.fzn_syntax.specs.declared.expression.Expression.{Expression};
-ghost use Rattle.fzn_scope.specs.Names.{names_of, AreDifferent};
+ghost use Rattle.fzn_symbols.specs.Named.{names_of, AreDifferent};
 ghost use Rattle.fzn_values.specs.declared.entry.Entry.{Entry as EntryOf};
 ghost use Rattle.fzn_values.specs.declared.literal.LiteralKind.TheVariants as literals;
 ghost use Rattle.fzn_values.specs.Links.{AreLiterals, IsLiteralOf, NameStandsFor, NamesListAt};
-ghost use Rattle.fzn_values.specs.Worth.{IsIntOf, IsListOf, IsListAt, AreInts, AreIntsOf, IsEntryOf, IsVariableOf, NamesVariableAt, IsIntegerVariable, HasOneInteger, HasOneList};
+ghost use Rattle.fzn_values.specs.Constants.{IsIntOf, IsListOf, IsListAt, AreInts, AreIntsOf, IsEntryOf, IsVariableOf, NamesVariableAt, IsIntegerVariable, HasOneInteger, HasOneList};
 
 use crate::entry::Entry;
 use crate::link::links_of;
@@ -15,12 +15,12 @@ use crate::literal::{
     LiteralKind, integer_in, integer_of, is_literal, list_in, name_in, named_by, value_for,
 };
 use chains::{Ends, ends_of};
-use fzn_scope::{Base, Scope, Sort, sort_of};
+use fzn_symbols::{Base, Scope, Sort, sort_of};
 use fzn_syntax::{Basic, Declaration, Expression};
 use std::alloc::{AllocError, Global};
 use std::marker::Model;
 
-/// An expression is worth one integer at most.
+/// An expression has one integer as its value at most.
 pub fn one_integer()
     ensures { HasOneInteger }
 {}
@@ -30,7 +30,7 @@ pub fn one_list()
     ensures { HasOneList }
 {}
 
-/// The declarations of a text with what their names are worth.
+/// The declarations of a text with the values of their names.
 #[derive(Drop)]
 pub struct Constants<'a> {
     scope: &'a Scope<'a>,
@@ -41,7 +41,7 @@ pub struct Constants<'a> {
 impl<'a> Model for Constants<'a> {
     ghost use Rattle.std.specs.Prelude.{List};
     ghost use Rattle.fzn_syntax.specs.declared.declaration.Declaration.{Declaration};
-    ghost use Rattle.fzn_scope.specs.Names.{names_of, AreDifferent};
+    ghost use Rattle.fzn_symbols.specs.Named.{names_of, AreDifferent};
     ghost use Rattle.fzn_values.specs.declared.literal.LiteralKind.TheVariants as literals;
     ghost use Rattle.fzn_values.specs.Links.{AreLiterals};
 
@@ -111,7 +111,7 @@ impl<'a> Constants<'a> {
         }
     }
 
-    /// The integer that the expression is worth.
+    /// The integer that is the expression's value.
     pub fn int_of(&self, basic: &Basic) -> Option<i64>
         ensures { MatchOption result ((z : ℤ) → IsIntOf self.now basic.now z → ⊥) (IsIntOf self.now basic.now) }
     {
@@ -158,7 +158,7 @@ impl<'a> Constants<'a> {
         }
     }
 
-    /// The integer that the expression is worth, or the integer variable that it names.
+    /// The integer that is the expression's value, or the integer variable that it names.
     pub fn entry_of(&self, basic: &Basic) -> Option<Entry>
         ensures { MatchOption result ((e : EntryOf) → IsEntryOf self.now basic.now e → ⊥) (IsEntryOf self.now basic.now) }
     {

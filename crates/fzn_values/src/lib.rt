@@ -1,4 +1,4 @@
-//! What constants are worth, and which lists arrays stand for.
+//! The values of constants, and which lists arrays stand for.
 #![tactic(auto)]
 
 mod constants;

@@ -1,11 +1,11 @@
 //! Where the values of declarations lead.
 ghost use Rattle.std.specs.Prelude.{◌≡◌, IfOk};
-ghost use Rattle.fzn_scope.specs.Names.{names_of, AreDifferent};
+ghost use Rattle.fzn_symbols.specs.Named.{names_of, AreDifferent};
 ghost use Rattle.fzn_values.specs.Links.{IsValueLink, IsLinkOf, AreLinks};
 
 use crate::literal::{LiteralKind, is_literal, named_by, value_for};
 use chains::Link;
-use fzn_scope::Scope;
+use fzn_symbols::Scope;
 use fzn_syntax::{Declaration, Expression};
 use std::alloc::{AllocError, Global};
 

@@ -3,7 +3,7 @@ ghost use Rattle.std.specs.Prelude.{◌≡◌, MatchOption, option_copied, true,
 ghost use Rattle.fzn_syntax.specs.declared.expression.Expression.TheVariants as expressions;
 ghost use Rattle.fzn_values.specs.Literals.{is_number, is_literal, name_in, named_by, integer_value, value_for};
 ghost use Rattle.fzn_values.specs.declared.literal.LiteralKind.TheVariants as literals;
-ghost use Rattle.fzn_values.specs.Worth.{number};
+ghost use Rattle.fzn_values.specs.Constants.{number};
 
 use fzn_syntax::{Basic, Declaration, Expression, Number, ParameterType};
 

@@ -1,8 +1,7 @@
 //! Names of short texts.
 use crate::{Constants, Entry, LiteralKind, is_literal, one_integer, one_list, value_for};
 use fzn_lex::lex;
-use fzn_occurrences::scope_of;
-use fzn_scope::Scope;
+use fzn_symbols::{Scope, scope_of};
 use fzn_syntax::{Basic, Expression, Items, parse};
 use std::alloc::Global;
 use std::process::Abort;
@@ -31,7 +30,7 @@ constraint p([7,a,b,c,d,e,f,t,x,true,1..2,{1}],one,[a,c],round,a);
 solve satisfy;
 ";
 
-const WORTH: [(Option<i64>, Option<Entry>); 12] = [
+const VALUES: [(Option<i64>, Option<Entry>); 12] = [
     (Some(7), Some(Entry::Constant(7))),
     (Some(3), Some(Entry::Constant(3))),
     (Some(3), Some(Entry::Constant(3))),
@@ -46,7 +45,7 @@ const WORTH: [(Option<i64>, Option<Entry>); 12] = [
     (None, None),
 ];
 
-fn tells_worth<R: Abort>(
+fn tells_values<R: Abort>(
     rt: &R,
     alloc: Global,
     scope: &Scope<'_>,
@@ -56,21 +55,21 @@ fn tells_worth<R: Abort>(
     shared(&values);
     assert_eq!(rt; values.scope().declarations().len(), 12);
     assert_eq!(rt; basics.len(), 12);
-    for (basic, (worth, entry)) in basics.iter().zip(WORTH) {
-        assert!(rt; values.int_of(basic) == worth, "its worth");
+    for (basic, (value, entry)) in basics.iter().zip(VALUES) {
+        assert!(rt; values.int_of(basic) == value, "its value");
         assert!(rt; values.entry_of(basic) == entry, "its entry");
     }
     Ok(())
 }
 
 #[test]
-fn names_are_worth_what_their_values_are_worth(rt: HostRuntime) -> Result<(), Fail> {
+fn names_have_the_values_of_their_values(rt: HostRuntime) -> Result<(), Fail> {
     one_integer();
     let items = items(rt.alloc(), DECLARED)?;
     let scope = scope_of(rt.alloc(), &items)?;
     for constraint in items.constraints.as_slice() {
         if let Some(Expression::List(basics)) = constraint.arguments.as_slice().first() {
-            tells_worth(&rt, rt.alloc(), &scope, basics.as_slice())?;
+            tells_values(&rt, rt.alloc(), &scope, basics.as_slice())?;
         }
     }
     Ok(())

@@ -4,7 +4,7 @@
 mod error;
 mod law;
 
-pub use error::ReadError;
+pub use error::ParseError;
 pub use law::{Spelled, fails_once, spells_or_fails};
 
 #[cfg(test)]

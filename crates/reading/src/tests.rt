@@ -5,10 +5,10 @@ use std::alloc::{AllocError, Global};
 use std::test::*;
 
 // A number of the list, where there is one.
-fn first_of(numbers: &[u32]) -> Result<u32, ReadError> {
+fn first_of(numbers: &[u32]) -> Result<u32, ParseError> {
     match numbers {
         [first, ..] => Ok(*first),
-        [] => Err(ReadError::Stuck(0)),
+        [] => Err(ParseError::Stuck(0)),
     }
 }
 
@@ -16,7 +16,7 @@ fn refused(given: bool) -> Result<u32, AllocError> {
     if given { Ok(7) } else { Err(AllocError) }
 }
 
-fn read(numbers: &[u32], given: bool) -> Result<u32, ReadError> {
+fn read(numbers: &[u32], given: bool) -> Result<u32, ParseError> {
     let first = first_of(numbers)?;
     let more = refused(given)?;
     Ok(first.min(more))
@@ -25,8 +25,8 @@ fn read(numbers: &[u32], given: bool) -> Result<u32, ReadError> {
 #[test]
 fn want_of_memory_is_told_apart(rt: HostRuntime) {
     assert!(rt; read(&[3], true) == Ok(3));
-    assert!(rt; read(&[3], false) == Err(ReadError::Memory));
-    assert!(rt; read(&[], false) == Err(ReadError::Stuck(0)));
+    assert!(rt; read(&[3], false) == Err(ParseError::Memory));
+    assert!(rt; read(&[], false) == Err(ParseError::Stuck(0)));
 }
 
 #[test]

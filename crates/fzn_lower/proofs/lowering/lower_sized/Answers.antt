@@ -1,8 +1,7 @@
 use Rattle.std.proofs.Common.{subst, Ok}
-use Rattle.fzn_occurrences.specs.Scoped.{IsScoped}
+use Rattle.fzn_symbols.specs.Scoped.{IsScoped}
 use Rattle.fzn_lower.proofs.Chained.{lowers_second}
-use Rattle.fzn_lower.specs.Finding.{◌⟫◌}
-use Rattle.fzn_lower.specs.Steps.{FindsName, FindsUnknown, FindsDeclaration, FindsConstraint, FindsSolve, FindsEntries}
+use Rattle.fzn_lower.specs.Steps.{FindsName, FindsUnknownOn}
 use Rattle.fzn_lower.proofs.lowering.lower_sized.Goals as goal
 
 pub lower_scoped-requires-clause-named : goal.lower_scoped-requires-clause-named
@@ -12,4 +11,4 @@ pub returns-in-Ok : goal.returns-in-Ok
 returns-in-Ok c =
     let t = c.args.items.now in
     let h = c.in-Ok.ensures in
-    lowers_second (FindsName t) (FindsUnknown t ⟫ FindsDeclaration t ⟫ FindsConstraint t ⟫ FindsSolve t ⟫ FindsEntries t) t c.lower_scoped.result (subst (λ ds. IsScoped t (Ok ds)) h.0 h) c.lower_scoped.ensures
+    lowers_second (FindsName t) (FindsUnknownOn t) t c.lower_scoped.result (subst (λ ds. IsScoped t (Ok ds)) h.0 h) c.lower_scoped.ensures

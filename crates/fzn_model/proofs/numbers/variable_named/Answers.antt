@@ -1,5 +1,5 @@
 use Rattle.std.proofs.Common.{◌≡◌}
-use Rattle.fzn_syntax.specs.declared.declaration.Variable as syntax
+use Rattle.fzn_syntax.specs.declared.declaration.VariableDeclaration as syntax
 use Rattle.fzn_model.proofs.Numbered.{undeclared_none, other_none, variable_number}
 use Rattle.fzn_model.proofs.numbers.variable_named.Goals as goal
 

@@ -1,7 +1,7 @@
 use Rattle.std.proofs.Common.{◌≡◌, length}
 use Rattle.reading.specs.Machine.{run}
 use Rattle.reading.proofs.Loops.{with_front}
-use Rattle.fzn_syntax.specs.Words.{words}
+use Rattle.fzn_words.specs.Words.{words}
 use Rattle.fzn_syntax.specs.Turns.{step, arguments_at}
 use Rattle.fzn_syntax.proofs.arguments.read_arguments.Given as goal
 

@@ -2,7 +2,7 @@ use Rattle.std.proofs.Common.{sym}
 use Rattle.std.proofs.lemmas.List.{length-map}
 use Rattle.reading.specs.Readers.{none}
 use Rattle.reading.proofs.Loops.{shorter, goes_on}
-use Rattle.fzn_syntax.specs.Words.{words}
+use Rattle.fzn_words.specs.Words.{words}
 use Rattle.fzn_syntax.specs.ItemReading.{declaration_at, declarations_at}
 use Rattle.fzn_syntax.specs.Items.{IsDeclaration}
 use Rattle.fzn_syntax.proofs.Firsts.{leads}

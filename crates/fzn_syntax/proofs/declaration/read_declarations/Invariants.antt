@@ -1,7 +1,7 @@
 use Rattle.std.proofs.Common.{◌≡◌, length}
 use Rattle.reading.specs.Readers.{many}
 use Rattle.reading.proofs.Loops.{with_front}
-use Rattle.fzn_syntax.specs.Words.{words}
+use Rattle.fzn_words.specs.Words.{words}
 use Rattle.fzn_syntax.specs.ItemReading.{declaration_at, declarations_at, leads_declaration}
 use Rattle.fzn_syntax.proofs.declaration.read_declarations.Given as goal
 

@@ -1,13 +1,13 @@
 use Rattle.std.proofs.Common.{◌≡◌, length}
 use Rattle.reading.specs.Readers.{many}
 use Rattle.reading.proofs.Loops.{with_front}
-use Rattle.fzn_syntax.specs.declared.kind.Kind.TheVariants as kinds
-use Rattle.fzn_syntax.specs.Words.{words, is}
+use Rattle.fzn_words.specs.declared.terminal.Terminal.TheVariants as terminals
+use Rattle.fzn_words.specs.Words.{words, is}
 use Rattle.fzn_syntax.specs.Reading.{more_numbers_at, numbers_at}
 use Rattle.fzn_syntax.proofs.number.read_numbers.Given as goal
 
 abbrev pub invariant-more : goal.invariant-more
-invariant-more l = with_front l.numbers.items (many (is kinds.Comma) more_numbers_at (words l.bytes l.rest)) ≡ numbers_at (words l.bytes l.tokens)
+invariant-more l = with_front l.numbers.items (many (is terminals.Comma) more_numbers_at (words l.bytes l.rest)) ≡ numbers_at (words l.bytes l.tokens)
 
 abbrev pub decreases-more : goal.decreases-more
 decreases-more l = length l.rest

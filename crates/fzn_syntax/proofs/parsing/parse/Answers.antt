@@ -1,5 +1,5 @@
 use Rattle.std.proofs.Common.{◌≡◌, length, Err}
-use Rattle.fzn_syntax.specs.Words.{words}
+use Rattle.fzn_words.specs.Words.{words}
 use Rattle.fzn_syntax.specs.ItemReading.{text_at}
 use Rattle.fzn_syntax.proofs.TextLaws.{few_left, text_is, stops_there}
 use Rattle.fzn_syntax.proofs.parsing.parse.Goals as goal

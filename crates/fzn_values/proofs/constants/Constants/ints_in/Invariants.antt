@@ -1,6 +1,6 @@
--- The expressions so far are worth these integers.
+-- The expressions so far have these integers as values.
 use Rattle.std.proofs.Common.{take}
-use Rattle.fzn_values.specs.Worth.{AreInts}
+use Rattle.fzn_values.specs.Constants.{AreInts}
 use Rattle.fzn_values.proofs.constants.Constants.ints_in.Given as goal
 
 abbrev pub invariant-loop-basic : goal.invariant-loop-basic

@@ -1,6 +1,6 @@
 use Rattle.std.proofs.Common.{List, subst}
 use Rattle.fzn_syntax.specs.declared.declaration.Declaration.{Declaration}
-use Rattle.fzn_scope.specs.Names.{names_of, AreDifferent}
+use Rattle.fzn_symbols.specs.Named.{names_of, AreDifferent}
 use Rattle.fzn_values.proofs.Told.{ints_are, ints_only}
 use Rattle.fzn_values.proofs.constants.Constants.ints_of.Goals as goal
 

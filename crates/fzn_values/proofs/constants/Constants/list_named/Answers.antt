@@ -1,6 +1,6 @@
 use Rattle.std.proofs.Common.{List, subst}
 use Rattle.fzn_syntax.specs.declared.declaration.Declaration.{Declaration}
-use Rattle.fzn_scope.specs.Names.{names_of, AreDifferent, IsPlaced, IsUndeclared}
+use Rattle.fzn_symbols.specs.Named.{names_of, AreDifferent, IsPlaced, IsUndeclared}
 use Rattle.fzn_values.specs.declared.literal.LiteralKind.TheVariants as literals
 use Rattle.fzn_values.proofs.Told.{no_name, list_place}
 use Rattle.fzn_values.proofs.constants.Constants.list_named.Goals as goal

@@ -1,6 +1,6 @@
 use Rattle.std.proofs.Common.{◌≡◌, ℕ, List, slice_get, Option, None, Some, sym, subst}
 use Rattle.fzn_syntax.specs.declared.declaration.Declaration.{Declaration}
-use Rattle.fzn_scope.specs.Names.{names_of, AreDifferent, IsPlaced, IsUndeclared}
+use Rattle.fzn_symbols.specs.Named.{names_of, AreDifferent, IsPlaced, IsUndeclared}
 use Rattle.fzn_values.proofs.Named.{end_stands}
 use Rattle.fzn_values.proofs.Told.{no_name, name_has_none, name_has_some}
 use Rattle.fzn_values.proofs.constants.Constants.literal_named.Goals as goal

@@ -1,6 +1,6 @@
 use Rattle.std.proofs.Common.{List, subst}
 use Rattle.fzn_syntax.specs.declared.declaration.Declaration.{Declaration}
-use Rattle.fzn_scope.specs.Names.{names_of, AreDifferent, IsPlaced, IsUndeclared}
+use Rattle.fzn_symbols.specs.Named.{names_of, AreDifferent, IsPlaced, IsUndeclared}
 use Rattle.fzn_values.proofs.Told.{no_variable, other_variable}
 use Rattle.fzn_values.proofs.constants.Constants.variable_named.Goals as goal
 

@@ -1,0 +1,16 @@
+pub mod Finds
+pub mod Floats
+pub mod Found
+pub mod Values
+pub mod Declares
+pub mod OutputArrays
+pub mod WellTyped
+pub mod Places
+pub mod Edges
+pub mod DeclarationFaults
+pub mod Goals
+pub mod Arguments
+pub mod Shapes
+pub mod ListMarks
+pub mod Posted
+pub mod ConstraintFaults

@@ -1,5 +1,0 @@
-mod EdgeLaws
-mod PlaceLaws
-mod FaultLaws
-mod MarkLaws
-pub mod LengthLaws

@@ -1,6 +1,0 @@
-use Rattle.std.proofs.Common.{sym}
-use Rattle.fzn_declared.proofs.EdgeLaws.{with_no_edges}
-use Rattle.fzn_declared.proofs.graph.add_successors.Goals as goal
-
-pub returns-in-None : goal.returns-in-None
-returns-in-None c = rw c.in-None.ensures (sym (with_no_edges c.args.graph.now))

@@ -1,7 +1,0 @@
--- The declarations so far are nodes.
-use Rattle.std.proofs.Common.{◌≡◌, map, take}
-use Rattle.fzn_declared.specs.Places.{successors}
-use Rattle.fzn_declared.proofs.graph.graph_of.Given as goal
-
-abbrev pub invariant-loop-declaration : goal.invariant-loop-declaration
-invariant-loop-declaration l = l.graph ≡ map (successors l.scope) (take l.declaration-index l.declarations)

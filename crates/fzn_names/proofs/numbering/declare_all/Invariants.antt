@@ -1,7 +1,0 @@
--- The names that stand before this place are added.
-use Rattle.fzn_names.specs.Counted.{IsCounted}
-use Rattle.fzn_names.specs.Marks.{marks_of}
-use Rattle.fzn_names.proofs.numbering.declare_all.Given as goal
-
-abbrev pub invariant-loop-place : goal.invariant-loop-place
-invariant-loop-place l = IsCounted (marks_of l.occurrences) l.place l.names l.double

@@ -1,4 +1,0 @@
-mod Different
-mod Firsts
-mod Marked
-mod Told

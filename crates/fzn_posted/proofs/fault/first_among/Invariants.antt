@@ -1,6 +1,0 @@
--- No constraint so far is at fault.
-use Rattle.fzn_posted.specs.Faults.{IsFineBefore}
-use Rattle.fzn_posted.proofs.fault.first_among.Given as goal
-
-abbrev pub invariant-loop-constraint : goal.invariant-loop-constraint
-invariant-loop-constraint l = IsFineBefore l.distinct l.constraints l.constraint-index

@@ -1,4 +1,0 @@
-pub mod Names
-pub mod Bases
-pub mod Sorts
-pub mod Typing

@@ -1,0 +1,11 @@
+pub mod Counted
+pub mod Listed
+pub mod Marks
+pub mod Noted
+pub mod Numbered
+pub mod Occurrences
+pub mod Scoped
+pub mod Named
+pub mod Bases
+pub mod Sorts
+pub mod Typing
