@@ -294,7 +294,11 @@ fn one_declaration_is_judged_by_itself(rt: HostRuntime) -> Result<(), Fail> {
             has_float,
             "{name}"
         );
-        assert_eq!(rt; is_well_typed(rt.alloc(), &scope, declaration)?, right, "{name}");
+        assert_eq!(rt;
+            is_well_typed(rt.alloc(), &scope, declaration)?,
+            right,
+            "{name}"
+        );
         if let Declaration::Parameter(parameter) = declaration {
             assert_eq!(rt;
                 has_float_or_set(&scope, &parameter.value),

@@ -18,7 +18,10 @@ pub fn declarations_have_one_first_fault()
 {}
 
 /// What the first declaration at fault has, at its name.
-pub fn first_declaration_fault(alloc: Global, scope: &Scope<'_>) -> Result<Option<Fault>, AllocError>
+pub fn first_declaration_fault(
+    alloc: Global,
+    scope: &Scope<'_>,
+) -> Result<Option<Fault>, AllocError>
     ensures { IfOk result (FindsFirstFault scope.now) }
 {
     let cyclic = first_cyclic(alloc, scope)?;

@@ -6,8 +6,9 @@ use dom_core::Name;
 use fzn_lex::lex;
 use fzn_symbols::scope_of;
 use fzn_syntax::{
-    Basic, Constraint, Declaration, Expression, SolveGoal, Identifier, IndexRange, Items, Parameter,
-    ParameterArray, ParameterType, Sequence, Solve, VariableDeclaration, VariableType, parse,
+    Basic, Constraint, Declaration, Expression, Identifier, IndexRange, Items, Parameter,
+    ParameterArray, ParameterType, Sequence, Solve, SolveGoal, VariableDeclaration, VariableType,
+    parse,
 };
 use std::alloc::{AllocError, Global};
 use std::test::Fail;

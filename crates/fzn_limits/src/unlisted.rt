@@ -2,8 +2,8 @@
 ghost use Rattle.std.specs.Prelude.{◌≡◌, ◌↔◌, IsTrue, MatchOption};
 ghost use Rattle.fzn_limits.specs.Unlisted.{IsKnown, AreKnown, IsFirstUnknown};
 
-use fzn_syntax::Constraint;
 use fzn_signatures::row_of;
+use fzn_syntax::Constraint;
 
 fn is_known(constraint: &Constraint) -> bool
     ensures { IsTrue result ↔ IsKnown constraint.now }

@@ -78,7 +78,10 @@ fn declare_one(builder: &mut ModelBuilder, declaration: &Declaration) -> Result<
     }
 }
 
-fn declare_variable(builder: &mut ModelBuilder, variable: &VariableDeclaration) -> Result<(), ResolveError>
+fn declare_variable(
+    builder: &mut ModelBuilder,
+    variable: &VariableDeclaration,
+) -> Result<(), ResolveError>
     requires ascii { IsAscii variable.now.name.name }
     requires room { length builder.old.variables < 100000 }
     ensures { IsDeclaredNext builder.old (declarations.Variable variable.now) builder.new result }

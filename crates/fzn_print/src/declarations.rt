@@ -11,8 +11,8 @@ use crate::tokens::write_token;
 use crate::types::{write_parameter_type, write_variable_type};
 use fzn_lex::What;
 use fzn_syntax::{
-    Declaration, Expression, Identifier, IndexRange, Parameter, ParameterArray, VariableDeclaration,
-    VariableArray,
+    Declaration, Expression, Identifier, IndexRange, Parameter, ParameterArray, VariableArray,
+    VariableDeclaration,
 };
 use std::alloc::AllocError;
 

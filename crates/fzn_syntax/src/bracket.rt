@@ -5,7 +5,6 @@ ghost use Rattle.fzn_syntax.specs.Balance.{closing, is_inert};
 
 use fzn_words::Terminal;
 
-
 #[derive(Clone, Copy, Debug, PartialEq, Eq, Drop)]
 pub enum Bracket {
     Paren,

@@ -153,7 +153,10 @@ fn read_variable<'a>(
 }
 
 #[tactic(auto, unfolding(crate::specs::ItemReading::index_at))]
-fn read_index<'a>(bytes: &[u8], tokens: &'a [Token]) -> Result<(IndexRange, &'a [Token]), ParseError>
+fn read_index<'a>(
+    bytes: &[u8],
+    tokens: &'a [Token],
+) -> Result<(IndexRange, &'a [Token]), ParseError>
     ensures { Gives (λ x. (x.0, words bytes.now x.1.now)) result (index_at (words bytes.now tokens.now)) }
 {
     let rest = read_sign(Terminal::Array, bytes, tokens)?;

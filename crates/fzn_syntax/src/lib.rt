@@ -24,7 +24,7 @@ mod turn;
 pub use annotation::Annotation;
 pub use constraint::Constraint;
 pub use declaration::{
-    Declaration, IndexRange, Parameter, ParameterArray, VariableDeclaration, VariableArray,
+    Declaration, IndexRange, Parameter, ParameterArray, VariableArray, VariableDeclaration,
 };
 pub use element::{Element, ParameterType, VariableType};
 pub use error::SyntaxError;

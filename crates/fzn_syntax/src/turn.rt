@@ -6,7 +6,6 @@ ghost use Rattle.fzn_syntax.specs.Turns.{start, closer, finish, member, turn};
 
 use fzn_words::{Terminal, code};
 
-
 /// What may stand next.
 #[derive(Clone, Copy, Debug, PartialEq, Eq, Drop)]
 pub enum Place {

@@ -22,14 +22,23 @@ fn tokens_become_words(rt: HostRuntime) -> Result<(), Fail> {
     for (terminal, text, at) in WORDS {
         let (token, after) = split_first(rest).ok_or("a token")?;
         let word = word_of(rt.alloc(), TEXT.as_bytes(), token)?;
-        assert!(rt; code(terminal_of(TEXT.as_bytes(), token)) == code(terminal), "{at}");
-        assert!(rt; kept_text(TEXT.as_bytes(), token) == text.as_bytes(), "{at}");
+        assert!(rt;
+            code(terminal_of(TEXT.as_bytes(), token)) == code(terminal),
+            "{at}"
+        );
+        assert!(rt;
+            kept_text(TEXT.as_bytes(), token) == text.as_bytes(),
+            "{at}"
+        );
         assert!(rt; word.text.as_bytes() == text.as_bytes(), "{at}");
         assert_eq!(rt; word.at, at, "{at}");
         rest = after;
     }
     assert!(rt; split_first(rest).is_none(), "no token is left");
     let spelling = Spelling::from_slice(rt.alloc(), b"2.5")?;
-    assert!(rt; spelling.as_bytes() == b"2.5".as_slice(), "the bytes are kept");
+    assert!(rt;
+        spelling.as_bytes() == b"2.5".as_slice(),
+        "the bytes are kept"
+    );
     Ok(())
 }

@@ -190,7 +190,11 @@ fn a_clause_implies_its_last_open_operand(rt: HostRuntime) -> Result<(), Fail> {
         (None, no, NONE),
     ] {
         let cells = truths(&rt, x, y, None)?;
-        assert_eq!(rt; answer_of(&rt, &kind, &cells)?, wanted, "{x:?} or not {y:?}");
+        assert_eq!(rt;
+            answer_of(&rt, &kind, &cells)?,
+            wanted,
+            "{x:?} or not {y:?}"
+        );
     }
     Ok(())
 }
