@@ -3,6 +3,8 @@
 
 mod clause;
 mod connective;
+#[cfg(test)]
+mod function_tests;
 mod operand;
 mod operands;
 mod parts;
