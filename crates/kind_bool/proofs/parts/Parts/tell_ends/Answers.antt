@@ -9,5 +9,5 @@ write_ends_in_turn-requires-clause-below c = subst (AllBelow (length c.args.cell
 
 pub returns-clause-visited : goal.returns-clause-visited
 returns-clause-visited c =
-    told_batch c.args.self.now (cell_of c.args.cells.now.state) (length c.args.cells.now.state.starts) c.write_ends_in_turn.new.ends c.is_empty.result c.requires.quiet c.in_default.ensures
+    told_batch c.args.self.now (cell_of c.args.cells.now.state) (length c.args.cells.now.state.starts) c.write_ends_in_turn.new.ends c.is_empty.result c.requires.quiet c.in_default.ensures.ends
     (nothing_left c.write_ends_in_turn.new.ends c.literals.result.now c.is_empty.result c.literals.ensures c.is_empty.ensures)
