@@ -1,0 +1,6 @@
+mod DefinersLaws
+mod DependenceLaws
+mod HullLaws
+mod SolvingLaws
+mod WidthLaws
+mod KnownLaws
