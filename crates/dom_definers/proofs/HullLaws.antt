@@ -1,5 +1,5 @@
 -- A definition's hull reads the hulls of its inputs alone.
-use Rattle.std.proofs.Common.{◌≡◌, ℕ, ◌≤◌, ◌^◌, Bool, true, false, ◌&&◌, List, [], ◌∷◌, ◌≤ℤ◌, refl, sym, ◌∙◌, ap, subst, arith, Option, Some, None, if◌then◌else◌, nat_lt}
+use Rattle.std.proofs.Common.{◌≡◌, ℕ, ◌≤◌, ◌^◌, Bool, true, ◌&&◌, List, [], ◌∷◌, ◌≤ℤ◌, refl, sym, ◌∙◌, ap, subst, arith, Option, Some, None, if◌then◌else◌, nat_lt}
 use Rattle.std.proofs.lemmas.Int.{ints}
 use Rattle.any_kind.specs.Any.{any_functional, any_inputs, any_size, any_ranged, any_defined}
 use Rattle.any_kind.specs.AnyLaws.{any-monotone}
@@ -8,6 +8,7 @@ use Rattle.any_kind.specs.declared.any.AnyKind.{AnyKind}
 use Rattle.any_kind.specs.declared.any.AnyKind.TheVariants.{Linear, LinearOutput, LinearReified, InSet, BoolClause, BoolClauseReified, And, Or, Xor}
 use Rattle.dom_core.specs.Ends.{Ends, IsOrdered}
 use Rattle.dom_core.proofs.EndsLaws.{same_ends}
+use Rattle.dom_core.proofs.TestLaws.{and_first, and_second}
 use Rattle.dom_core.specs.declared.var_id.VarId.{VarId}
 use Rattle.kind_law.specs.Laws.{Each, AreSmall, AreWithin, EndsIn, small_ends}
 use Rattle.kind_law.proofs.ArgumentLaws.{each_listed}
@@ -27,14 +28,6 @@ known_one (Some e) k s = s
 ordered_one : (h : Option Ends) → IsSmallHull h → IsOrdered (span_of h)
 ordered_one None s = omega (arith, ints)
 ordered_one (Some e) s = s.order
-
-pub and_first : (a b : Bool) → (a && b) ≡ true → a ≡ true
-and_first true b h = refl
-and_first false b h = absurd (cc)
-
-pub and_second : (a b : Bool) → (a && b) ≡ true → b ≡ true
-and_second true b h = h
-and_second false b h = absurd (cc)
 
 small_each : (hs : List (Option Ends)) (vars : List VarId) → AreSmallHulls hs → all_known hs vars ≡ true → Each (λ u. EndsIn (spans hs u.0) small_ends) vars
 small_each hs [] s k = tt

@@ -1,38 +1,28 @@
 -- Every hull is known where no variable and no constraint is at fault, one variable after the other.
-use Rattle.std.proofs.Common.{◌≡◌, ℕ, zero, suc, ◌==◌, ◌+◌, ◌<◌, ◌≤◌, ◌^◌, Bool, true, false, not, ◌&&◌, ◌||◌, List, [], ◌∷◌, length, map, take, get_or, refl, sym, ◌∙◌, ap, subst, arith, Option, Some, None, if◌then◌else◌, nat_lt, slice_get, inl, inr}
+use Rattle.std.proofs.Common.{◌≡◌, ℕ, zero, suc, ◌==◌, ◌+◌, ◌<◌, ◌^◌, Bool, true, false, not, ◌&&◌, ◌||◌, List, [], ◌∷◌, length, get_or, refl, sym, ◌∙◌, ap, subst, arith, Option, Some, None, if◌then◌else◌, nat_lt, slice_get, inl, inr}
 use Rattle.std.specs.List.{Contains}
 use Rattle.std.proofs.lemmas.Bool.Decides.{Decides-eqb}
 use Rattle.std.proofs.lemmas.List.{get_or_default}
 use Rattle.std.proofs.lemmas.Option.{get_or_from_slice_get, same_Some}
-use Rattle.any_kind.specs.Any.{any_defined, any_functional, any_inputs, any_output, any_size, any_vars}
+use Rattle.any_kind.specs.Any.{any_defined, any_inputs, any_size, any_vars}
 use Rattle.any_kind.specs.AnyLaws.{any-parts}
 use Rattle.any_kind.specs.declared.any.AnyKind.{AnyKind}
-use Rattle.digraph.specs.Order.{IsOrder}
 use Rattle.dom_core.specs.Ends.{Ends}
-use Rattle.dom_core.proofs.ListLaws.{get_take}
-use Rattle.dom_core.proofs.RisesLaws.{or_right, or_true}
+use Rattle.dom_core.proofs.TestLaws.{and_both}
+use Rattle.dom_core.proofs.RisesLaws.{or_left, or_right, or_true}
 use Rattle.dom_core.specs.declared.var_id.VarId.{VarId}
 use Rattle.kind_law.specs.Argument.{is_listed}
-use Rattle.kind_law.specs.Laws.{AllBelow, Each}
+use Rattle.kind_law.specs.Laws.{Each}
 use Rattle.kind_law.proofs.ArgumentLaws.{listed}
-use Rattle.dom_definers.specs.Definers.{AreDefiners, definer_at, definer_from, definer_of, dependence, is_var, numbers, posted_reads, reads_at}
-use Rattle.dom_definers.specs.Hulls.{AreFitDefiners, AreHulls, IsFitDefiner, IsPostedDefinition, declared_or_none, defined_hull, hull_at, hull_by, is_known, kept_by, kept_definer, own_hull, posted_hull, spans}
-use Rattle.dom_definers.specs.Known.{AreDeclared, AreSolved, EveryHullIsKnown, kept_of}
-use Rattle.dom_definers.specs.Width.{AreFitFrom, GivesVar, IsFitConstraint, if_defined, is_lost, is_own, is_place, is_too_wide, others_known, wide_from}
+use Rattle.dom_definers.specs.Definers.{definer_at, definer_from, is_var, numbers, posted_reads, reads_at}
+use Rattle.dom_definers.specs.Hulls.{declared_or_none, defined_hull, hull_at, is_known, kept_by, kept_definer, own_hull, posted_hull, spans}
+use Rattle.dom_definers.specs.Known.{AreDeclared, AreSolved, kept_of}
+use Rattle.dom_definers.specs.Width.{AreFitFrom, GivesVar, IsFitConstraint, if_defined, is_own, is_place, is_too_wide, others_known, wide_from}
 use Rattle.dom_definers.specs.declared.posted.Posted.{Posted}
 use Rattle.dom_definers.specs.declared.variable.Variable.{Variable}
-use Rattle.dom_definers.proofs.HullLaws.{and_second}
-use Rattle.dom_definers.proofs.SolvingLaws.{each_number, node_row, nodes, place_of, reads_below, reads_inputs, order_below}
+use Rattle.dom_definers.proofs.SolvingLaws.{each_number, nodes, order_below, read_before, reads_inputs}
 
 -- ---- tests
-
-or_left : (a b : Bool) → a ≡ true → (a || b) ≡ true
-or_left true b e = refl
-or_left false b e = absurd (cc)
-
-both_true : (a b : Bool) → a ≡ true → b ≡ true → (a && b) ≡ true
-both_true true b e f = f
-both_true false b e f = absurd (cc)
 
 kept_known : (a b c : Bool) → a ≡ true → (a && (b || not c)) ≡ false → c ≡ true
 kept_known true true c e f = absurd (cc)
@@ -95,7 +85,7 @@ all_others : (hs : List (Option Ends)) (x : VarId) (inputs vars : List VarId) �
     → others_known hs (Some x) vars ≡ true
 all_others hs x inputs [] h e = refl
 all_others hs x inputs (v ∷ vs) h e =
-    both_true (is_own (Some x) v || is_known (hull_at hs v.0)) (others_known hs (Some x) vs)
+    and_both (is_own (Some x) v || is_known (hull_at hs v.0)) (others_known hs (Some x) vs)
     (elim (or_true (v.0 == x.0) (is_listed v inputs) h.0) [
       | inl same ↦ or_left (x.0 == v.0) (is_known (hull_at hs v.0)) ((Decides-eqb x.0 v.0).1 (sym ((Decides-eqb v.0 x.0).0 same)))
       | inr input ↦ or_right (x.0 == v.0) (is_known (hull_at hs v.0)) (listed (λ u. is_known (hull_at hs u.0) ≡ true) v inputs input e)
@@ -171,23 +161,11 @@ module _ (vs : List Variable) (cs : List Posted) (ds : List (Option ℕ)) (order
       (subst (λ (j : ℕ). IsFitConstraint (length vs) found.0.kind (if_defined (kept_of cs hs ds) found.0.defines j)) at (fit_at (length vs) cs 0 found.1 (kept_of cs hs ds) found.0 s.gives found.3))
       read
 
-  -- what a node's definition reads stands before it
-  read_before : (k b : ℕ) → k < length order → Contains (numbers (reads_at cs (definer_at ds (get_or order k 0)))) b → (j : ℕ) × (j < k) × (slice_get order j ≡ Some b)
-  read_before k b l c =
-      let node : get_or order k 0 < length vs = order_below vs cs ds order k s.definers.whole s.is_order l in
-      let below : b < length (dependence cs ds) =
-      (let q : b < length vs = reads_below (length vs) cs (definer_at ds (get_or order k 0)) b (s.fit (get_or order k 0)) c in omega (arith, q, nodes cs ds, s.definers.whole)) in
-      let row : Contains (get_or (dependence cs ds) (get_or order k 0) []) b =
-      subst (λ (xs : List ℕ). Contains xs b) (sym (node_row cs ds (get_or order k 0) (omega (arith, node, s.definers.whole)))) c in
-      let there = place_of (take k order) b (s.is_order.behind k b l (below, row)) in
-      let front = get_take order k there.0 b there.1 in
-      (there.0, front.0, front.1)
-
   known_before : (n k : ℕ) → k < n → k < length order → is_known (hull_at hs (get_or order k 0)) ≡ true
   known_before zero k kn l = absurd (omega (arith, kn))
   known_before (suc n) k kn l =
       by_definer (get_or order k 0) (definer_at ds (get_or order k 0)) (order_below vs cs ds order k s.definers.whole s.is_order l) refl
-      (λ b c. (let r = read_before k b l c in
+      (λ b c. (let r = read_before vs cs ds order s.definers.whole s.fit s.is_order k b l c in
       subst (λ (x : ℕ). is_known (hull_at hs x) ≡ true) (get_or_from_slice_get order r.0 b 0 r.2) (known_before n r.0 (omega (arith, r.1, kn)) (omega (arith, r.1, l)))))
 
   pub all_known_hulls : (v : ℕ) → v < length vs → is_known (hull_at hs v) ≡ true

@@ -20,7 +20,7 @@ use Rattle.dom_definers.proofs.HullLaws.{AreSame, same_hull}
 
 -- ---- places
 
-pub place_of : (xs : List ℕ) (x : ℕ) → Contains xs x → (i : ℕ) × (slice_get xs i ≡ Some x)
+place_of : (xs : List ℕ) (x : ℕ) → Contains xs x → (i : ℕ) × (slice_get xs i ≡ Some x)
 place_of xs x h = (h.0, slice_get_read xs (length xs) h.0 x refl h.1 (sym h.2))
 
 read_at : (xs : List ℕ) (i : ℕ) → i < length xs → slice_get xs i ≡ Some (get_or xs i 0)
@@ -33,7 +33,7 @@ pub each_number : (P : ℕ → Type 0) (vs : List VarId) → ((b : ℕ) → Cont
 each_number P [] h = tt
 each_number P (u ∷ us) h = (h u.0 (0, omega arith, refl), each_number P us (λ b c. h b (suc c.0, omega (arith, c.1), c.2)))
 
-pub node_row : (cs : List Posted) (ds : List (Option ℕ)) (v : ℕ) → v < length ds → get_or (dependence cs ds) v [] ≡ numbers (reads_at cs (definer_at ds v))
+node_row : (cs : List Posted) (ds : List (Option ℕ)) (v : ℕ) → v < length ds → get_or (dependence cs ds) v [] ≡ numbers (reads_at cs (definer_at ds v))
 node_row cs [] v lt = absurd (omega (arith, lt))
 node_row cs (d ∷ ds) zero lt = refl
 node_row cs (d ∷ ds) (suc v) lt = node_row cs ds v (omega (arith, lt))
@@ -55,7 +55,7 @@ posted_below : (n : ℕ) (p : Option Posted) (b : ℕ) → IsPostedDefinition n 
 posted_below n None b f c = absurd (omega (arith, c.1))
 posted_below n (Some p) b f c = below_numbers n (any_inputs p.kind) b f.below (subst (λ (vs : List VarId). Contains (numbers vs) b) (reads_inputs p.kind f.functional) c)
 
-pub reads_below : (n : ℕ) (cs : List Posted) (d : Option ℕ) (b : ℕ) → IsFitDefiner n cs d → Contains (numbers (reads_at cs d)) b → b < n
+reads_below : (n : ℕ) (cs : List Posted) (d : Option ℕ) (b : ℕ) → IsFitDefiner n cs d → Contains (numbers (reads_at cs d)) b → b < n
 reads_below n cs None b f c = absurd (omega (arith, c.1))
 reads_below n cs (Some i) b f c = posted_below n (slice_get cs i) b f c
 
@@ -81,6 +81,20 @@ order_below vs cs ds order k whole is_order l =
     let b : get_or order k 0 < length (dependence cs ds) = is_order.nodes (get_or order k 0) (k, l, get_or_default order k (get_or order k 0) 0 l) in
     omega (arith, b, nodes cs ds, whole)
 
+-- what a node's definition reads stands before it
+pub read_before : (vs : List Variable) (cs : List Posted) (ds : List (Option ℕ)) (order : List ℕ) → length ds ≡ length vs → AreFitDefiners (length vs) cs ds
+    → IsOrder (dependence cs ds) order → (k b : ℕ) → k < length order → Contains (numbers (reads_at cs (definer_at ds (get_or order k 0)))) b
+    → (j : ℕ) × (j < k) × (slice_get order j ≡ Some b)
+read_before vs cs ds order whole fit is_order k b l c =
+    let node : get_or order k 0 < length vs = order_below vs cs ds order k whole is_order l in
+    let below : b < length (dependence cs ds) =
+    (let q : b < length vs = reads_below (length vs) cs (definer_at ds (get_or order k 0)) b (fit (get_or order k 0)) c in omega (arith, q, nodes cs ds, whole)) in
+    let row : Contains (get_or (dependence cs ds) (get_or order k 0) []) b =
+    subst (λ (xs : List ℕ). Contains xs b) (sym (node_row cs ds (get_or order k 0) (omega (arith, node, whole)))) c in
+    let there = place_of (take k order) b (is_order.behind k b l (below, row)) in
+    let front = get_take order k there.0 b there.1 in
+    (there.0, front.0, front.1)
+
 module _ (vs : List Variable) (cs : List Posted) (ds : List (Option ℕ)) (order : List ℕ) (hs : List (Option Ends)) (i : ℕ) (hull : Option Ends)
     (whole : length ds ≡ length vs) (size : length hs ≡ length vs) (fit : AreFitDefiners (length vs) cs ds) (is_order : IsOrder (dependence cs ds) order)
     (small : AreSmallHulls hs) (small_too : AreSmallHulls (set hs (get_or order i 0) hull)) (lt : i < length order) where
@@ -90,16 +104,9 @@ module _ (vs : List Variable) (cs : List Posted) (ds : List (Option ℕ)) (order
   -- what the definition of a node at an earlier place, or this one, reads isn't this node
   other_read : (k : ℕ) → k < i + 1 → (b : ℕ) → Contains (numbers (reads_at cs (definer_at ds (get_or order k 0)))) b → b ≡ get_or order i 0 → ⊥
   other_read k kl b c e =
-      let v = get_or order k 0 in
-      let kb : k < length order = omega (arith, kl, lt) in
-      let below : b < length (dependence cs ds) =
-      (let q : b < length vs = reads_below (length vs) cs (definer_at ds (get_or order k 0)) b (fit (get_or order k 0)) c in omega (arith, q, nodes cs ds, whole)) in
-      let node : get_or order k 0 < length ds = omega (arith, node_below k kb, whole) in
-      let row : Contains (get_or (dependence cs ds) (get_or order k 0) []) b = subst (λ (xs : List ℕ). Contains xs b) (sym (node_row cs ds (get_or order k 0) node)) c in
-      let there = place_of (take k order) b (is_order.behind k b kb (below, row)) in
-      let front = get_take order k there.0 b there.1 in
-      let one : there.0 ≡ i = is_order.once there.0 i b front.1 (subst (λ (x : ℕ). slice_get order i ≡ Some x) (sym e) (read_at order i lt)) in
-      omega (arith, front.0, one, kl)
+      let r = read_before vs cs ds order whole fit is_order k b (omega (arith, kl, lt)) c in
+      let one : r.0 ≡ i = is_order.once r.0 i b r.2 (subst (λ (x : ℕ). slice_get order i ≡ Some x) (sym e) (read_at order i lt)) in
+      omega (arith, r.1, one, kl)
 
   apart : (k : ℕ) → k < i → get_or order k 0 ≡ get_or order i 0 → ⊥
   apart k kl e =

@@ -1,21 +1,20 @@
 -- What is measured of a constraint is known where its other variables are.
-use Rattle.std.proofs.Common.{◌≡◌, ℕ, ◌==◌, ◌<◌, Bool, true, false, ◌&&◌, ◌||◌, List, [], ◌∷◌, refl, sym, ◌∙◌, ap, subst, Option, Some, None, inl, inr}
+use Rattle.std.proofs.Common.{◌≡◌, ℕ, ◌==◌, ◌<◌, Bool, true, false, ◌||◌, List, [], ◌∷◌, refl, sym, ◌∙◌, ap, subst, Option, Some, None, inl, inr}
 use Rattle.std.proofs.lemmas.Bool.Decides.{Decides-eqb}
-use Rattle.any_kind.specs.Any.{any_functional, any_inputs, any_measured, any_output, any_vars}
+use Rattle.any_kind.specs.Any.{any_inputs, any_measured, any_output, any_vars}
 use Rattle.any_kind.specs.AnyLaws.{any-apart, any-measured, any-measured_inputs, any-parts}
 use Rattle.any_kind.specs.declared.any.AnyKind.{AnyKind}
 use Rattle.dom_core.specs.Ends.{Ends}
 use Rattle.dom_core.proofs.RisesLaws.{or_true}
-use Rattle.dom_core.proofs.TestLaws.{not_both}
+use Rattle.dom_core.proofs.TestLaws.{and_first, and_second}
 use Rattle.dom_core.specs.declared.var_id.VarId.{VarId}
 use Rattle.kind_law.specs.Argument.{is_listed}
-use Rattle.kind_law.specs.DefineLaws.{ApartLaw}
 use Rattle.kind_law.specs.Laws.{AllBelow, AreSmall, Each, EndsIn, small_ends}
 use Rattle.kind_law.proofs.ArgumentLaws.{listed, same_var}
 use Rattle.kind_law.proofs.EachLaws.{each_map}
 use Rattle.dom_definers.specs.Hulls.{AreSmallHulls, hull_at, is_known, spans}
 use Rattle.dom_definers.specs.Width.{GivesVar, is_own, others_known}
-use Rattle.dom_definers.proofs.HullLaws.{and_first, and_second, known_one}
+use Rattle.dom_definers.proofs.HullLaws.{known_one}
 
 pub measured_below : (n : ℕ) (k : AnyKind) → AllBelow n (any_vars k) → AllBelow n (any_measured k)
 measured_below n k h = each_map (λ u. is_listed u (any_vars k) ≡ true) (λ u. u.0 < n) (any_measured k) (λ u e. listed (λ w. w.0 < n) u (any_vars k) e h) (any-measured k)

@@ -1,9 +1,8 @@
 -- The domain of a declaration.
-use Rattle.std.specs.Prelude.{◌≡◌, Option, Some, None, Result, Ok, Err, List, ℤ, pos}
+use Rattle.std.specs.Prelude.{Option, Some, None, Result, Ok, Err, List, ℤ, pos}
 use Rattle.dom_core.specs.Domain.{IsRange, IsOfValues}
 use Rattle.dom_core.specs.Small.{IsSmall}
 use Rattle.dom_core.specs.declared.domain.DomainError.{DomainError}
-use Rattle.dom_core.specs.declared.domain.DomainError.TheVariants.{Memory}
 use Rattle.dom_definers.specs.declared.form.Declared.{Declared}
 use Rattle.dom_definers.specs.declared.form.Declared.TheVariants.{Any, Range, Values}
 use Rattle.dom_definers.specs.declared.form.Form.{Form}

@@ -1,5 +1,5 @@
 -- Constraints whose sum or product can be too large, or whose variable can have too large a value.
-use Rattle.std.specs.Prelude.{◌≡◌, ◌==◌, ◌<◌, ◌^◌, ◌&&◌, ◌||◌, Bool, true, false, not, nat_lt, if◌then◌else◌, Option, Some, None, List, [], ◌∷◌, ℕ, suc, slice_get}
+use Rattle.std.specs.Prelude.{◌≡◌, ◌==◌, ◌^◌, ◌&&◌, ◌||◌, Bool, true, false, not, nat_lt, if◌then◌else◌, Option, Some, None, List, [], ◌∷◌, ℕ, suc}
 use Rattle.any_kind.specs.Any.{any_functional, any_output, any_size, any_vars}
 use Rattle.any_kind.specs.declared.any.AnyKind.{AnyKind}
 use Rattle.dom_core.specs.Ends.{Ends}
