@@ -2,9 +2,9 @@
 ghost use Rattle.std.specs.Prelude.{◌≡◌, ◌≤◌, cond};
 ghost use Rattle.fzn_limits.specs.Sizes.{is_variable, variables_in, IsCounted};
 
-use crate::counted::Counted;
 use crate::lengths::first_long_list;
 use crate::too_many::TooMany;
+use dom_limits::Counted;
 use fzn_syntax::{Declaration, Items};
 
 /// More of one thing are too many.

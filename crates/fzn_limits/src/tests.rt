@@ -1,8 +1,9 @@
 //! Counts of texts.
 use crate::{
-    Counted, TooMany, argument_entries, count_items, entries_are_bounded, first_unknown_constraint,
+    TooMany, argument_entries, count_items, entries_are_bounded, first_unknown_constraint,
 };
 use dom_core::Name;
+use dom_limits::Counted;
 use fzn_lex::lex;
 use fzn_symbols::scope_of;
 use fzn_syntax::{

@@ -1,7 +1,7 @@
 //! That there is too much of something.
 ghost use Rattle.std.specs.Prelude.{◌≡◌};
 
-use crate::counted::Counted;
+use dom_limits::Counted;
 use thiserror::Error;
 
 /// There is too much of something.

@@ -2,4 +2,3 @@ mod GapLaws
 mod Literals
 mod SetLaws
 mod SignLaws
-mod SizeLaws

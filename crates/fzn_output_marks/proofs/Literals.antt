@@ -15,7 +15,7 @@ use Rattle.fzn_syntax.specs.Grammar.{Sign, IsInt}
 use Rattle.fzn_syntax.specs.Reading.{sign_at, int_at}
 use Rattle.fzn_syntax.proofs.Choices.{sure_choice_reads}
 use Rattle.fzn_syntax.proofs.Firsts.{sign_reads, int_reads, leads, sign_first, front_first, comma_starts}
-use Rattle.fzn_output_marks.specs.declared.index_set.IndexSet.{IndexSet}
+use Rattle.dom_index_sets.specs.declared.index_set.IndexSet.{IndexSet}
 use Rattle.fzn_output_marks.specs.declared.literal.SetLiteral.{SetLiteral}
 use Rattle.fzn_output_marks.specs.declared.literal.SetLiteral.TheVariants as literals
 use Rattle.fzn_output_marks.specs.Reading.{range_at, more_ints_at, ints_at, some_ints_at, set_at, literal_at, more_literals_at, literals_at, argument_at}

@@ -9,14 +9,14 @@ use Rattle.fzn_syntax.specs.declared.annotation.Annotation.{Annotation}
 use Rattle.reading.proofs.Laws.{okay_is, never_both, stops_none}
 use Rattle.reading.specs.Readers.{none}
 use Rattle.fzn_words.specs.declared.word.Word.{Word}
-use Rattle.fzn_output_marks.specs.declared.index_set.IndexSet.{IndexSet}
+use Rattle.dom_index_sets.specs.declared.index_set.IndexSet.{IndexSet}
 use Rattle.fzn_output_marks.specs.declared.literal.SetLiteral.{SetLiteral}
 use Rattle.fzn_output_marks.specs.declared.literal.SetLiteral.TheVariants as literals
 use Rattle.fzn_output_marks.specs.Gaps.{IsNotWhole}
 use Rattle.fzn_output_marks.specs.Reading.{argument_at}
 use Rattle.fzn_output_marks.specs.Answers.{IsUnread, HasNoSets, IsNotSet, CountAsFew, HasNoEnds}
 use Rattle.fzn_output_marks.specs.Sets.{IsArgument, IsWhole, CountsAs, CountAs, AreIndexSets, GiveIndexSets, HasIndexSets, HasNoIndexSets, HasRightSets}
-use Rattle.fzn_output_marks.specs.Sizes.{product_of}
+use Rattle.dom_index_sets.specs.Sizes.{product_of}
 use Rattle.fzn_output_marks.proofs.Literals.{argument_reads}
 
 -- ---- the words

@@ -1,7 +1,7 @@
 -- What the steps answer between the words and the index sets.
 use Rattle.std.specs.Prelude.{◌≤◌, List, length}
 use Rattle.fzn_words.specs.declared.word.Word.{Word}
-use Rattle.fzn_output_marks.specs.declared.index_set.IndexSet.{IndexSet}
+use Rattle.dom_index_sets.specs.declared.index_set.IndexSet.{IndexSet}
 use Rattle.fzn_output_marks.specs.declared.literal.SetLiteral.{SetLiteral}
 use Rattle.fzn_output_marks.specs.Sets.{IsArgument, CountsAs, CountAs, AreIndexSets}
 

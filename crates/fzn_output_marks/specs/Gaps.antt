@@ -1,6 +1,6 @@
 -- Gaps among integers that stand in order.
 use Rattle.std.specs.Prelude.{ℕ, ◌+◌, ◌<◌, List, length, ℤ, pos, ◌+ℤ◌, ◌≤ℤ◌, slice_index_or}
-use Rattle.fzn_output_marks.specs.declared.index_set.IndexSet.{IndexSet}
+use Rattle.dom_index_sets.specs.declared.index_set.IndexSet.{IndexSet}
 use Rattle.fzn_output_marks.specs.Sets.{IsWhole}
 
 -- each is at most one more than the one before it

@@ -4,4 +4,3 @@ pub mod Marks
 pub mod Reading
 pub mod Sets
 pub mod Signs
-pub mod Sizes

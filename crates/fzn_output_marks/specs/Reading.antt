@@ -5,7 +5,7 @@ use Rattle.fzn_words.specs.declared.terminal.Terminal.TheVariants as terminals
 use Rattle.fzn_words.specs.declared.word.Word.{Word}
 use Rattle.fzn_words.specs.Words.{is}
 use Rattle.fzn_syntax.specs.Reading.{sign_at, int_at}
-use Rattle.fzn_output_marks.specs.declared.index_set.IndexSet.{IndexSet}
+use Rattle.dom_index_sets.specs.declared.index_set.IndexSet.{IndexSet}
 use Rattle.fzn_output_marks.specs.declared.literal.SetLiteral.{SetLiteral}
 use Rattle.fzn_output_marks.specs.declared.literal.SetLiteral.TheVariants as literals
 

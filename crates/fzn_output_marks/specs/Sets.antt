@@ -6,10 +6,10 @@ use Rattle.fzn_words.specs.declared.terminal.Terminal.TheVariants as terminals
 use Rattle.fzn_words.specs.declared.word.Word.{Word}
 use Rattle.fzn_syntax.specs.declared.annotation.Annotation.{Annotation}
 use Rattle.fzn_syntax.specs.Grammar.{Sign, IsInt}
-use Rattle.fzn_output_marks.specs.declared.index_set.IndexSet.{IndexSet}
+use Rattle.dom_index_sets.specs.declared.index_set.IndexSet.{IndexSet}
 use Rattle.fzn_output_marks.specs.declared.literal.SetLiteral.{SetLiteral}
 use Rattle.fzn_output_marks.specs.declared.literal.SetLiteral.TheVariants as literals
-use Rattle.fzn_output_marks.specs.Sizes.{product_of}
+use Rattle.dom_index_sets.specs.Sizes.{product_of}
 
 -- Int '..' Int | '{' [Int {',' Int}*] '}'
 abbrev pub IsSetLiteral : SetLiteral → List Word → Type 0

@@ -2,11 +2,11 @@
 ghost use Rattle.std.specs.Prelude.{◌≡◌, ◌↔◌, ◌<◌, ◌-◌, length, slice_index_or, ◌≤ℤ◌, ◌+ℤ◌, pos, IsTrue, MatchOption};
 ghost use Rattle.std.specs.List.Sorted.{IsSorted};
 ghost use Rattle.std.specs.Ordering.{int_cmp};
-ghost use Rattle.fzn_output_marks.specs.declared.index_set.IndexSet.{IndexSet as Ends};
+ghost use Rattle.dom_index_sets.specs.declared.index_set.IndexSet.{IndexSet as Ends};
 ghost use Rattle.fzn_output_marks.specs.Sets.{IsWhole};
 ghost use Rattle.fzn_output_marks.specs.Gaps.{IsGapless, IsNotWhole};
 
-use crate::index_set::IndexSet;
+use dom_index_sets::IndexSet;
 
 /// The ends of the values, where these are one at least and have no gap.
 pub(crate) fn whole_of(mut values: Vec<i64>) -> Option<IndexSet>

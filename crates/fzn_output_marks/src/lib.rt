@@ -2,13 +2,11 @@
 #![tactic(auto)]
 
 mod gaps;
-mod index_set;
 mod literal;
 mod marks;
 mod sets;
 mod sign;
 
-pub use index_set::{IndexSet, IndexSets};
 pub use marks::{is_output_array, is_output_var};
 pub use sets::{index_sets, right_sets};
 

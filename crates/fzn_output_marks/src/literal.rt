@@ -3,8 +3,8 @@ ghost use Rattle.std.specs.Prelude.{◌≡◌};
 ghost use Rattle.reading.specs.Gives.{Gives};
 ghost use Rattle.fzn_output_marks.specs.Reading.{range_at, more_ints_at, ints_at, some_ints_at, set_at, literal_at, more_literals_at, literals_at, argument_at};
 
-use crate::index_set::IndexSet;
 use crate::sign::{next_is, next_is_int, read_int, read_sign};
+use dom_index_sets::IndexSet;
 use fzn_lex::What;
 use fzn_syntax::Sequence;
 use fzn_words::Word;

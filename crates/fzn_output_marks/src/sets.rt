@@ -4,8 +4,8 @@ ghost use Rattle.fzn_output_marks.specs.Answers.{IsUnread, HasNoEnds, CountAsFew
 ghost use Rattle.fzn_output_marks.specs.Sets.{IsArgument, CountsAs, AreIndexSets, HasIndexSets, HasNoIndexSets, HasRightSets};
 
 use crate::gaps::whole_of;
-use crate::index_set::{IndexSet, IndexSets};
 use crate::literal::{SetLiteral, read_argument};
+use dom_index_sets::{IndexSet, IndexSets};
 use fzn_syntax::{Annotation, Sequence};
 use fzn_words::Word;
 use reading::ParseError;

@@ -1,5 +1,6 @@
 //! Annotations at declarations.
-use crate::{IndexSet, index_sets, is_output_array, is_output_var, right_sets};
+use crate::{index_sets, is_output_array, is_output_var, right_sets};
+use dom_index_sets::IndexSet;
 use fzn_lex::lex;
 use fzn_syntax::{Annotation, Declaration, Items, parse};
 use std::alloc::Global;

@@ -4,8 +4,8 @@ use Rattle.std.specs.List.{All, Any}
 use Rattle.std.proofs.Math.Nat.{mul-le-mul_left, mul_assoc, mul-zero, zero-mul}
 use Rattle.std.proofs.lemmas.List.{take_more}
 use Rattle.std.proofs.lemmas.Bool.{eqb-true, eq-eqb}
-use Rattle.fzn_output_marks.specs.declared.index_set.IndexSet.{IndexSet}
-use Rattle.fzn_output_marks.specs.Sizes.{size_of, product_of, IsEmpty, IsFilled}
+use Rattle.dom_index_sets.specs.declared.index_set.IndexSet.{IndexSet}
+use Rattle.dom_index_sets.specs.Sizes.{size_of, product_of, IsEmpty, IsFilled}
 
 product_push : (ss : List IndexSet) (s : IndexSet) → product_of (ss ++ s ∷ []) ≡ product_of ss * size_of s
 product_push [] s = omega arith

@@ -1,7 +1,7 @@
 -- The sizes so far are multiplied.
 use Rattle.std.proofs.Common.{◌≡◌, ◌<◌, take}
-use Rattle.fzn_output_marks.specs.Sizes.{product_of}
-use Rattle.fzn_output_marks.proofs.index_set.product_is.Given as goal
+use Rattle.dom_index_sets.specs.Sizes.{product_of}
+use Rattle.dom_index_sets.proofs.index_set.product_is.Given as goal
 
 abbrev pub invariant-loop-set : goal.invariant-loop-set
 invariant-loop-set l = record {

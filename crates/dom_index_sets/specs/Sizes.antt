@@ -1,6 +1,6 @@
 -- How many places an array with such index sets has.
 use Rattle.std.specs.Prelude.{◌≡◌, ◌<◌, ℕ, ◌*◌, List, [], ◌∷◌, ℤ, pos, negsuc, ◌+ℤ◌, ◌-ℤ◌}
-use Rattle.fzn_output_marks.specs.declared.index_set.IndexSet.{IndexSet}
+use Rattle.dom_index_sets.specs.declared.index_set.IndexSet.{IndexSet}
 
 -- the integer as a natural number, or 0 below that
 abbrev pub natural_of : ℤ → ℕ

@@ -1,8 +1,8 @@
 use Rattle.std.proofs.Common.{◌≡◌, ◌==◌, ◌↔◌, List, true, subst, refl, ◌∙◌}
-use Rattle.fzn_output_marks.specs.declared.index_set.IndexSet.{IndexSet}
-use Rattle.fzn_output_marks.specs.Sizes.{product_of}
-use Rattle.fzn_output_marks.proofs.SizeLaws.{empty_told}
-use Rattle.fzn_output_marks.proofs.index_set.IndexSets.count_is.Goals as goal
+use Rattle.dom_index_sets.specs.declared.index_set.IndexSet.{IndexSet}
+use Rattle.dom_index_sets.specs.Sizes.{product_of}
+use Rattle.dom_index_sets.proofs.SizeLaws.{empty_told}
+use Rattle.dom_index_sets.proofs.index_set.IndexSets.count_is.Goals as goal
 
 pub returns-then-has_empty : goal.returns-then-has_empty
 returns-then-has_empty c =

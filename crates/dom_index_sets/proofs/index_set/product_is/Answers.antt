@@ -1,6 +1,6 @@
 use Rattle.std.proofs.Common.{◌+◌, ◌*◌, ◌<◌, arith}
-use Rattle.fzn_output_marks.proofs.SizeLaws.{product_next, too_great, fits_product}
-use Rattle.fzn_output_marks.proofs.index_set.product_is.Goals as goal
+use Rattle.dom_index_sets.proofs.SizeLaws.{product_next, too_great, fits_product}
+use Rattle.dom_index_sets.proofs.index_set.product_is.Goals as goal
 
 pub overflow_mul-product : goal.overflow_mul-product
 overflow_mul-product c = omega (arith, fits_product _ _ c.loop-set.invariant.small c.size-product.ensures.small)

@@ -1,8 +1,8 @@
-//! Index sets.
+//! Index sets of arrays.
 ghost use Rattle.std.specs.Prelude.{◌≡◌, ◌↔◌, ◌<◌, ◌*◌, ◌≤◌, length, IsTrue};
 ghost use Rattle.std.specs.Bool.{MatchBool};
 ghost use Rattle.std.specs.List.{All, Any};
-ghost use Rattle.fzn_output_marks.specs.Sizes.{size_of, product_of, IsEmpty, IsFilled};
+ghost use Rattle.dom_index_sets.specs.Sizes.{size_of, product_of, IsEmpty, IsFilled};
 
 use std::marker::Model;
 
@@ -21,7 +21,7 @@ pub struct IndexSets {
 
 impl Model for IndexSets {
     ghost use Rattle.std.specs.Prelude.{List};
-    ghost use Rattle.fzn_output_marks.specs.declared.index_set.IndexSet.{IndexSet};
+    ghost use Rattle.dom_index_sets.specs.declared.index_set.IndexSet.{IndexSet};
 
     ghost Value = { List IndexSet };
 
@@ -29,10 +29,10 @@ impl Model for IndexSets {
 }
 
 impl IndexSet {
-    ghost use Rattle.fzn_output_marks.specs.Sizes.{size_of};
+    ghost use Rattle.dom_index_sets.specs.Sizes.{size_of};
 
     /// How many integers it has.
-    fn size(self) -> u128
+    pub fn size(self) -> u128
         ensures size { result ≡ size_of self }
         ensures small { result ≤ 18446744073709551616 }
     {
@@ -45,9 +45,10 @@ impl IndexSet {
 }
 
 impl IndexSets {
-    ghost use Rattle.fzn_output_marks.specs.Sizes.{product_of};
+    ghost use Rattle.dom_index_sets.specs.Sizes.{product_of};
 
-    pub(crate) fn from_vec(sets: Vec<IndexSet>) -> IndexSets
+    /// The sets of a vector, which is moved.
+    pub fn from_vec(sets: Vec<IndexSet>) -> IndexSets
         ensures { result ≡ sets.items }
     {
         IndexSets { sets }
