@@ -1,6 +1,6 @@
 pub mod FoundLaws
 mod EdgeLaws
-mod PlaceLaws
+pub mod PlaceLaws
 mod DeclarationLaws
 mod OutputArrayLaws
 pub mod LengthLaws

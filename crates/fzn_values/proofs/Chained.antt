@@ -1,15 +1,15 @@
 -- The ends of chains of names are the literals that the names stand for.
-use Rattle.std.proofs.Common.{◌≡◌, ℕ, ◌+◌, ◌<◌, ◌≤◌, ◌⊎◌, inl, inr, true, false, List, [], ◌∷◌, ◌++◌, length, get_or, slice_get, Option, None, Some, MatchOption, refl, sym, ◌∙◌, ap, subst, arith}
+use Rattle.std.proofs.Common.{◌≡◌, ℕ, ◌+◌, ◌<◌, ◌≤◌, ◌⊎◌, inl, inr, true, List, [], ◌∷◌, ◌++◌, length, slice_get, Option, None, Some, MatchOption, refl, sym, ◌∙◌, ap, subst, arith}
 use Rattle.std.proofs.lemmas.List.{get_or_append_left, get_or_push, length_push}
-use Rattle.std.proofs.lemmas.Option.{slice_get_within, slice_get_read, same_Some}
+use Rattle.std.proofs.lemmas.Option.{slice_get_within, same_Some}
 use Rattle.chains.specs.declared.link.Link.{Link}
 use Rattle.chains.specs.declared.link.Link.TheVariants as places
 use Rattle.chains.specs.Chains.{link_at, Ends, here, there, IsEnd, end_at, AreEnds}
 use Rattle.fzn_syntax.specs.declared.declaration.Declaration.{Declaration}
 use Rattle.fzn_syntax.specs.declared.expression.Expression.{Expression}
-use Rattle.fzn_symbols.specs.Named.{names_of, AreDifferent, IsNamed, IsPlaced}
+use Rattle.fzn_symbols.specs.Named.{names_of, AreDifferent}
 use Rattle.fzn_values.specs.declared.literal.LiteralKind.{LiteralKind}
-use Rattle.fzn_values.specs.Literals.{is_literal, named_by, value_for, StandsFor, itself, through}
+use Rattle.fzn_values.specs.Literals.{is_literal, value_for, StandsFor, itself, through}
 use Rattle.fzn_values.specs.Links.{IsValueLink, IsLinkOf, AreLinks, EndsAt, is_here, leads_on, IsLiteralOf, AreLiterals}
 use Rattle.fzn_values.proofs.Named.{one_place, literal_unnamed}
 

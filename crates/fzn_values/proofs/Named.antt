@@ -1,22 +1,30 @@
 -- Declarations by their names, and literals by the names that stand for them.
-use Rattle.std.proofs.Common.{◌≡◌, ℕ, Bool, true, false, List, slice_get, Option, None, Some, refl, sym, ◌∙◌, ap, subst}
+use Rattle.std.proofs.Common.{◌≡◌, ℕ, true, List, slice_get, None, Some, refl, sym, ◌∙◌, ap, subst}
 use Rattle.std.proofs.lemmas.Option.{same_Some}
 use Rattle.fzn_syntax.specs.declared.declaration.Declaration.{Declaration}
 use Rattle.fzn_syntax.specs.declared.expression.Basic.{Basic}
 use Rattle.fzn_syntax.specs.declared.expression.Basic.TheVariants as basics
 use Rattle.fzn_syntax.specs.declared.expression.Expression.{Expression}
 use Rattle.fzn_syntax.specs.declared.expression.Expression.TheVariants as expressions
-use Rattle.fzn_symbols.specs.Named.{name_of, names_of, AreDifferent, IsNamed, IsPlaced}
+use Rattle.fzn_symbols.specs.Named.{name_of, names_of, AreDifferent, IsNamed}
 use Rattle.fzn_symbols.proofs.Places.{named_at, one_named}
 use Rattle.fzn_values.specs.declared.literal.LiteralKind.{LiteralKind}
 use Rattle.fzn_values.specs.declared.literal.LiteralKind.TheVariants as literals
-use Rattle.fzn_values.specs.Literals.{is_number, is_literal, name_in, named_by, value_for, StandsFor, itself, through}
+use Rattle.fzn_values.specs.Literals.{is_truth, is_number, is_literal, name_in, named_by, value_for, StandsFor, itself, through}
 use Rattle.fzn_values.specs.Links.{EndsAt, is_here, leads_on, NameStandsFor}
 use Rattle.fzn_values.specs.Constants.{IsListOf, IsListAt}
 
 -- a name is that of one declaration, at one place
 pub one_place : (ds : List Declaration) (n : List ℕ) (j k : ℕ) (d e : Declaration) → AreDifferent (names_of ds) → slice_get ds j ≡ Some d → name_of d ≡ n → slice_get ds k ≡ Some e → name_of e ≡ n → j ≡ k
 one_place ds n j k d e different at is at2 is2 = different j k n (named_at ds n j d at is) (named_at ds n k e at2 is2)
+
+truth_unnamed : (b : Basic) (n : List ℕ) → is_truth b ≡ true → name_in b ≡ Some n → ⊥
+truth_unnamed basics.True n is named = absurd cc
+truth_unnamed basics.False n is named = absurd cc
+truth_unnamed (basics.Name m) n is named = absurd cc
+truth_unnamed (basics.Number z) n is named = absurd cc
+truth_unnamed (basics.Range r) n is named = absurd cc
+truth_unnamed (basics.Set zs) n is named = absurd cc
 
 number_unnamed : (b : Basic) (n : List ℕ) → is_number b ≡ true → name_in b ≡ Some n → ⊥
 number_unnamed basics.True n is named = absurd cc
@@ -28,6 +36,8 @@ number_unnamed (basics.Set zs) n is named = absurd cc
 
 -- no literal is a name
 pub literal_unnamed : (literal : LiteralKind) (e : Expression) (n : List ℕ) → is_literal literal e ≡ true → named_by e ≡ Some n → ⊥
+literal_unnamed literals.Boolean (expressions.Basic b) n is named = truth_unnamed b n is named
+literal_unnamed literals.Boolean (expressions.List bs) n is named = absurd cc
 literal_unnamed literals.Integer (expressions.Basic b) n is named = number_unnamed b n is named
 literal_unnamed literals.Integer (expressions.List bs) n is named = absurd cc
 literal_unnamed literals.List (expressions.Basic b) n is named = absurd cc

@@ -1,5 +1,5 @@
--- What calls tell of literals, of integers and of lists.
-use Rattle.std.proofs.Common.{◌≡◌, ℕ, zero, suc, ◌+◌, ℤ, true, false, List, [], ◌∷◌, ◌++◌, take, length, get_or, slice_get, ◌<◌, Option, None, Some, Result, Ok, Err, IfOk, IfSome, MatchOption, Bor, refl, sym, ◌∙◌, ap, subst, arith}
+-- What calls tell of literals, of truth values, of integers and of lists.
+use Rattle.std.proofs.Common.{◌≡◌, ℕ, zero, suc, ◌+◌, ℤ, Bool, true, false, List, [], ◌∷◌, ◌++◌, take, length, get_or, slice_get, ◌<◌, Option, None, Some, Result, Ok, Err, IfOk, IfSome, MatchOption, Bor, refl, sym, ◌∙◌, ap, subst, arith}
 use Rattle.std.specs.Option.{option_copied}
 use Rattle.std.proofs.lemmas.Option.{slice_get_read, same_Some}
 use Rattle.chains.specs.declared.link.Link.TheVariants as places
@@ -12,9 +12,9 @@ use Rattle.fzn_values.specs.declared.entry.Entry.{Entry}
 use Rattle.fzn_values.specs.declared.entry.Entry.TheVariants.{Constant, Variable}
 use Rattle.fzn_values.specs.declared.literal.LiteralKind.{LiteralKind}
 use Rattle.fzn_values.specs.declared.literal.LiteralKind.TheVariants as literals
-use Rattle.fzn_values.specs.Literals.{is_number, is_literal, name_in, named_by, value_for, StandsFor, itself}
+use Rattle.fzn_values.specs.Literals.{is_truth, is_number, is_literal, name_in, named_by, value_for, StandsFor, itself}
 use Rattle.fzn_values.specs.Links.{IsValueLink, IsLiteralOf, NameStandsFor, NamesListAt}
-use Rattle.fzn_values.specs.Constants.{number, IsIntOf, IsListOf, IsListAt, AreInts, AreIntsOf, IsIntegerVariable, NamesVariableAt, IsVariableOf, IsEntryOf}
+use Rattle.fzn_values.specs.Constants.{truth, number, IsTruthOf, IsIntOf, IsListOf, IsListAt, AreInts, AreIntsOf, IsIntegerVariable, NamesVariableAt, IsVariableOf, IsEntryOf}
 use Rattle.fzn_values.proofs.Named.{one_place, end_stands, stands_literal, written, by_name, of_name, one_literal}
 
 pub copied_some : {X : Type 0} (r : Option (Bor X)) (N : Type 0) (P : X → Type 0) (x : X) → option_copied r ≡ Some x → P x → MatchOption r N (λ y. P y.now)
@@ -42,40 +42,62 @@ pub list_place : (ds : List Declaration) (n : List ℕ) (place : ℕ) → AreDif
 list_place ds n place different p None h = name_has_none ds literals.List n place p.0 p.1 (place, p.1, p.2) different (h p.0 p.1)
 list_place ds n place different p (Some e) h = (p.0, (place, p.1, p.2), h p.0 p.1)
 
-module _ (ds : List Declaration) (b : Basic) (r : Option ℤ) where
-  pub int_written : name_in b ≡ None → MatchOption r (is_number b ≡ false) (λ z. b ≡ number z) → MatchOption r ((z : ℤ) → IsIntOf ds b z → ⊥) (IsIntOf ds b)
-  int_written none h = by r h
-    where
-      by : (o : Option ℤ) → MatchOption o (is_number b ≡ false) (λ z. b ≡ number z) → MatchOption o ((z : ℤ) → IsIntOf ds b z → ⊥) (IsIntOf ds b)
-      by None not = λ z s. let w = (written ds literals.Integer (expressions.Basic b) (expressions.Basic (number z)) none s).0 in absurd cc
-      by (Some z) is = subst (λ x. IsIntOf ds x z) (sym is) (itself refl refl)
+-- what calls tell of an expression that may stand for literals of this shape
+module _ {X Y : Type 0} (shape : X → Expression) (seen : Y → X) (ds : List Declaration) (literal : LiteralKind) (e : Expression) where
+  abbrev Tells : Option Y → Type 0
+  Tells r = MatchOption r ((x : X) → StandsFor ds literal e (shape x) → ⊥) (λ y. StandsFor ds literal e (shape (seen y)))
 
-  pub int_named : (n : List ℕ) (l : Expression) → name_in b ≡ Some n → NameStandsFor ds literals.Integer n l → MatchOption r (is_literal literals.Integer l ≡ false) (λ z. l ≡ expressions.Basic (number z))
-      → MatchOption r ((z : ℤ) → IsIntOf ds b z → ⊥) (IsIntOf ds b)
-  int_named n l is s h = by r h
-    where
-      by : (o : Option ℤ) → MatchOption o (is_literal literals.Integer l ≡ false) (λ z. l ≡ expressions.Basic (number z)) → MatchOption o ((z : ℤ) → IsIntOf ds b z → ⊥) (IsIntOf ds b)
-      by None not = let w = stands_literal ds literals.Integer s.1 l s.4 in absurd cc
-      by (Some z) same = subst (λ x. StandsFor ds literals.Integer (expressions.Basic b) x) same (of_name ds literals.Integer (expressions.Basic b) l n is s)
+  pub as_written : ((x : X) → is_literal literal (shape x) ≡ true) → named_by e ≡ None → (r : Option Y) → MatchOption r (is_literal literal e ≡ false) (λ y. e ≡ shape (seen y)) → Tells r
+  as_written literals none None not = λ x s. let w = (written ds literal e (shape x) none s).0 in absurd cc
+  as_written literals none (Some y) is = subst (λ l. StandsFor ds literal l (shape (seen y))) (sym is) (itself (literals (seen y)) refl)
 
-pub int_unnamed : (ds : List Declaration) (b : Basic) (n : List ℕ) → name_in b ≡ Some n → ((l : Expression) → NameStandsFor ds literals.Integer n l → ⊥) → (z : ℤ) → IsIntOf ds b z → ⊥
-int_unnamed ds b n is none z s = none (expressions.Basic (number z)) (by_name ds literals.Integer (expressions.Basic b) (expressions.Basic (number z)) n is s)
+  pub as_named : (n : List ℕ) (l : Expression) → named_by e ≡ Some n → NameStandsFor ds literal n l → (r : Option Y) → MatchOption r (is_literal literal l ≡ false) (λ y. l ≡ shape (seen y)) → Tells r
+  as_named n l is s None not = let w = stands_literal ds literal s.1 l s.4 in absurd cc
+  as_named n l is s (Some y) same = subst (λ x. StandsFor ds literal e x) same (of_name ds literal e l n is s)
 
-module _ (ds : List Declaration) (e : Expression) (r : Option (Bor (List Basic))) where
-  pub list_written : named_by e ≡ None → MatchOption r (is_literal literals.List e ≡ false) (λ bs. e ≡ expressions.List bs.now) → MatchOption r ((bs : List Basic) → IsListOf ds e bs → ⊥) (λ bs. IsListOf ds e bs.now)
-  list_written none h = by r h
-    where
-      by : (o : Option (Bor (List Basic))) → MatchOption o (is_literal literals.List e ≡ false) (λ bs. e ≡ expressions.List bs.now) → MatchOption o ((bs : List Basic) → IsListOf ds e bs → ⊥) (λ bs. IsListOf ds e bs.now)
-      by None not = λ bs s. let w = (written ds literals.List e (expressions.List bs) none s).0 in absurd cc
-      by (Some bs) is = subst (λ x. IsListOf ds x bs.now) (sym is) (itself refl refl)
+  pub as_unnamed : (n : List ℕ) → named_by e ≡ Some n → ((l : Expression) → NameStandsFor ds literal n l → ⊥) → Tells None
+  as_unnamed n is none x s = none (shape x) (by_name ds literal e (shape x) n is s)
 
-  pub list_named : (n : List ℕ) (l : Expression) → named_by e ≡ Some n → NameStandsFor ds literals.List n l → MatchOption r (is_literal literals.List l ≡ false) (λ bs. l ≡ expressions.List bs.now)
+in_basic : {X : Type 0} (shape : X → Basic) (b : Basic) (N : Type 0) (r : Option X) → MatchOption r N (λ x. b ≡ shape x) → MatchOption r N (λ x. expressions.Basic b ≡ expressions.Basic (shape x))
+in_basic shape b N None h = h
+in_basic shape b N (Some x) same = ap expressions.Basic same
+
+truth_is_literal : (t : Bool) → is_literal literals.Boolean (expressions.Basic (truth t)) ≡ true
+truth_is_literal true = refl
+truth_is_literal false = refl
+
+module _ (ds : List Declaration) (b : Basic) where
+  pub truth_written : (r : Option Bool) → name_in b ≡ None → MatchOption r (is_truth b ≡ false) (λ t. b ≡ truth t) → MatchOption r ((t : Bool) → IsTruthOf ds b t → ⊥) (IsTruthOf ds b)
+  truth_written r none h = as_written (λ t. expressions.Basic (truth t)) (λ t. t) ds literals.Boolean (expressions.Basic b) truth_is_literal none r (in_basic truth b (is_truth b ≡ false) r h)
+
+  pub truth_named : (r : Option Bool) (n : List ℕ) (l : Expression) → name_in b ≡ Some n → NameStandsFor ds literals.Boolean n l
+      → MatchOption r (is_literal literals.Boolean l ≡ false) (λ t. l ≡ expressions.Basic (truth t)) → MatchOption r ((t : Bool) → IsTruthOf ds b t → ⊥) (IsTruthOf ds b)
+  truth_named r n l is s h = as_named (λ t. expressions.Basic (truth t)) (λ t. t) ds literals.Boolean (expressions.Basic b) n l is s r h
+
+  pub truth_unnamed : (n : List ℕ) → name_in b ≡ Some n → ((l : Expression) → NameStandsFor ds literals.Boolean n l → ⊥) → (t : Bool) → IsTruthOf ds b t → ⊥
+  truth_unnamed n is none = as_unnamed (λ t. expressions.Basic (truth t)) (λ t. t) ds literals.Boolean (expressions.Basic b) n is none
+
+  pub int_written : (r : Option ℤ) → name_in b ≡ None → MatchOption r (is_number b ≡ false) (λ z. b ≡ number z) → MatchOption r ((z : ℤ) → IsIntOf ds b z → ⊥) (IsIntOf ds b)
+  int_written r none h = as_written (λ z. expressions.Basic (number z)) (λ z. z) ds literals.Integer (expressions.Basic b) (λ z. refl) none r (in_basic number b (is_number b ≡ false) r h)
+
+  pub int_named : (r : Option ℤ) (n : List ℕ) (l : Expression) → name_in b ≡ Some n → NameStandsFor ds literals.Integer n l
+      → MatchOption r (is_literal literals.Integer l ≡ false) (λ z. l ≡ expressions.Basic (number z)) → MatchOption r ((z : ℤ) → IsIntOf ds b z → ⊥) (IsIntOf ds b)
+  int_named r n l is s h = as_named (λ z. expressions.Basic (number z)) (λ z. z) ds literals.Integer (expressions.Basic b) n l is s r h
+
+  pub int_unnamed : (n : List ℕ) → name_in b ≡ Some n → ((l : Expression) → NameStandsFor ds literals.Integer n l → ⊥) → (z : ℤ) → IsIntOf ds b z → ⊥
+  int_unnamed n is none = as_unnamed (λ z. expressions.Basic (number z)) (λ z. z) ds literals.Integer (expressions.Basic b) n is none
+
+module _ (ds : List Declaration) (e : Expression) where
+  pub list_written : (r : Option (Bor (List Basic))) → named_by e ≡ None → MatchOption r (is_literal literals.List e ≡ false) (λ bs. e ≡ expressions.List bs.now)
       → MatchOption r ((bs : List Basic) → IsListOf ds e bs → ⊥) (λ bs. IsListOf ds e bs.now)
-  list_named n l is s h = by r h
-    where
-      by : (o : Option (Bor (List Basic))) → MatchOption o (is_literal literals.List l ≡ false) (λ bs. l ≡ expressions.List bs.now) → MatchOption o ((bs : List Basic) → IsListOf ds e bs → ⊥) (λ bs. IsListOf ds e bs.now)
-      by None not = let w = stands_literal ds literals.List s.1 l s.4 in absurd cc
-      by (Some bs) same = subst (λ x. StandsFor ds literals.List e x) same (of_name ds literals.List e l n is s)
+  list_written r none h = as_written (λ bs. expressions.List bs) (λ (bs : Bor (List Basic)). bs.now) ds literals.List e (λ bs. refl) none r h
+
+  pub list_named : (r : Option (Bor (List Basic))) (n : List ℕ) (l : Expression) → named_by e ≡ Some n → NameStandsFor ds literals.List n l
+      → MatchOption r (is_literal literals.List l ≡ false) (λ bs. l ≡ expressions.List bs.now) → MatchOption r ((bs : List Basic) → IsListOf ds e bs → ⊥) (λ bs. IsListOf ds e bs.now)
+  list_named r n l is s h = as_named (λ bs. expressions.List bs) (λ (bs : Bor (List Basic)). bs.now) ds literals.List e n l is s r h
+
+  pub list_unnamed : (n : List ℕ) → named_by e ≡ Some n → ((l : Expression) → NameStandsFor ds literals.List n l → ⊥) → (bs : List Basic) → IsListOf ds e bs → ⊥
+  list_unnamed n is none = as_unnamed (λ bs. expressions.List bs) (λ (bs : Bor (List Basic)). bs.now) ds literals.List e n is none
 
 pub one_list : (ds : List Declaration) (e : Expression) (bs cs : List Basic) → AreDifferent (names_of ds) → IsListOf ds e bs → IsListOf ds e cs → bs ≡ cs
 one_list ds e bs cs different h g =
@@ -99,8 +121,23 @@ pub one_list_at : (ds : List Declaration) (e : Expression) → AreDifferent (nam
 one_list_at ds e different None = tt
 one_list_at ds e different (Some k) = λ bs cs h g. one_list ds e cs bs different g h
 
-pub list_unnamed : (ds : List Declaration) (e : Expression) (n : List ℕ) → named_by e ≡ Some n → ((l : Expression) → NameStandsFor ds literals.List n l → ⊥) → (bs : List Basic) → IsListOf ds e bs → ⊥
-list_unnamed ds e n is none bs s = none (expressions.List bs) (by_name ds literals.List e (expressions.List bs) n is s)
+truth_is_one : (t u : Bool) → truth t ≡ truth u → t ≡ u
+truth_is_one true true same = refl
+truth_is_one true false same = absurd cc
+truth_is_one false true same = absurd cc
+truth_is_one false false same = refl
+
+basic_is_one : (a b : Basic) → expressions.Basic a ≡ expressions.Basic b → a ≡ b
+basic_is_one a b same = cc
+
+pub one_truth : (ds : List Declaration) (b : Basic) (t u : Bool) → AreDifferent (names_of ds) → IsTruthOf ds b t → IsTruthOf ds b u → t ≡ u
+one_truth ds b t u different h g =
+    truth_is_one t u (basic_is_one (truth t) (truth u) (one_literal ds literals.Boolean different (expressions.Basic b) (expressions.Basic (truth t)) (expressions.Basic (truth u)) h g))
+
+pub truth_only : (ds : List Declaration) (b : Basic) → AreDifferent (names_of ds) → (r : Option Bool) → MatchOption r ((t : Bool) → IsTruthOf ds b t → ⊥) (IsTruthOf ds b)
+    → IfSome r (λ t. (u : Bool) → IsTruthOf ds b u → u ≡ t)
+truth_only ds b different None h = tt
+truth_only ds b different (Some t) h = λ u g. one_truth ds b u t different g h
 
 pub one_integer : (ds : List Declaration) (b : Basic) (y z : ℤ) → AreDifferent (names_of ds) → IsIntOf ds b y → IsIntOf ds b z → y ≡ z
 one_integer ds b y z different h g =

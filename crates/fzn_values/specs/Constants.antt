@@ -1,5 +1,5 @@
 -- The values of constants, and which lists arrays stand for.
-use Rattle.std.specs.Prelude.{◌≡◌, ℕ, ℤ, true, false, List, [], ◌∷◌, slice_get, Some}
+use Rattle.std.specs.Prelude.{◌≡◌, ℕ, ℤ, Bool, true, false, List, [], ◌∷◌, slice_get, Some}
 use Rattle.fzn_syntax.specs.declared.declaration.Declaration.{Declaration}
 use Rattle.fzn_syntax.specs.declared.expression.Basic.{Basic}
 use Rattle.fzn_syntax.specs.declared.expression.Basic.TheVariants as basics
@@ -15,9 +15,18 @@ use Rattle.fzn_values.specs.declared.literal.LiteralKind.TheVariants as literals
 use Rattle.fzn_values.specs.Links.{NamesListAt}
 use Rattle.fzn_values.specs.Literals.{name_in, named_by, StandsFor}
 
+-- a truth value as it is written
+abbrev pub truth : Bool → Basic
+truth true = basics.True
+truth false = basics.False
+
 -- an integer as it is written
 abbrev pub number : ℤ → Basic
 number z = basics.Number (numbers.Int z)
+
+-- the expression is this truth value, or a Boolean parameter with this value
+abbrev pub IsTruthOf : List Declaration → Basic → Bool → Type 0
+IsTruthOf ds b t = StandsFor ds literals.Boolean (expressions.Basic b) (expressions.Basic (truth t))
 
 -- the expression is this integer, or an integer parameter with this value
 abbrev pub IsIntOf : List Declaration → Basic → ℤ → Type 0
@@ -58,6 +67,10 @@ IsVariableOf ds b k = (n : List ℕ) × (name_in b ≡ Some n) × NamesVariableA
 abbrev pub IsEntryOf : List Declaration → Basic → Entry → Type 0
 IsEntryOf ds b (Constant z) = IsIntOf ds b z
 IsEntryOf ds b (Variable k) = IsVariableOf ds b k
+
+-- an expression has one truth value at most
+abbrev pub HasOneTruth : Type 0
+HasOneTruth = (ds : List Declaration) (b : Basic) (t u : Bool) → AreDifferent (names_of ds) → IsTruthOf ds b t → IsTruthOf ds b u → t ≡ u
 
 -- an expression has one integer as its value at most
 abbrev pub HasOneInteger : Type 0

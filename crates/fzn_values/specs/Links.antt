@@ -5,7 +5,7 @@ use Rattle.chains.specs.declared.link.Link.TheVariants.{End, To, Nothing}
 use Rattle.chains.specs.Chains.{link_at, end_at}
 use Rattle.fzn_syntax.specs.declared.declaration.Declaration.{Declaration}
 use Rattle.fzn_syntax.specs.declared.expression.Expression.{Expression}
-use Rattle.fzn_symbols.specs.Named.{IsPlaced, IsNamed, IsUndeclared}
+use Rattle.fzn_symbols.specs.Named.{names_of, AreDifferent, IsPlaced, IsNamed, IsUndeclared}
 use Rattle.fzn_values.specs.declared.literal.LiteralKind.{LiteralKind}
 use Rattle.fzn_values.specs.declared.literal.LiteralKind.TheVariants as literals
 use Rattle.fzn_values.specs.Literals.{is_literal, named_by, value_for, StandsFor}
@@ -38,6 +38,13 @@ IsLiteralOf ds literal d (Some e) = EndsAt ds literal d e
 -- for each declaration where its chain ends
 abbrev pub AreLiterals : List Declaration → LiteralKind → List (Option ℕ) → Type 0
 AreLiterals ds literal ends = (k : ℕ) (d : Declaration) → slice_get ds k ≡ Some d → IsLiteralOf ds literal d (end_at ends k)
+
+-- for each kind of literal these are the ends of the chains of all declarations, whose names are different
+pub record AreEndsOfKinds (ds : List Declaration) (truths integers lists : List (Option ℕ)) : Type 0 where
+  pub of_truths : AreLiterals ds literals.Boolean truths
+  pub of_integers : AreLiterals ds literals.Integer integers
+  pub of_lists : AreLiterals ds literals.List lists
+  pub different : AreDifferent (names_of ds)
 
 -- what a name stands for
 abbrev pub NameStandsFor : List Declaration → LiteralKind → List ℕ → Expression → Type 0

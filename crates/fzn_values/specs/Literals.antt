@@ -13,6 +13,15 @@ use Rattle.fzn_symbols.specs.Named.{IsNamed}
 use Rattle.fzn_values.specs.declared.literal.LiteralKind.{LiteralKind}
 use Rattle.fzn_values.specs.declared.literal.LiteralKind.TheVariants as literals
 
+-- a truth value as it is written
+abbrev pub is_truth : Basic → Bool
+is_truth basics.True = true
+is_truth basics.False = true
+is_truth (basics.Name n) = false
+is_truth (basics.Number z) = false
+is_truth (basics.Range b) = false
+is_truth (basics.Set zs) = false
+
 -- an integer as it is written
 abbrev pub is_number : Basic → Bool
 is_number basics.True = false
@@ -24,6 +33,8 @@ is_number (basics.Set zs) = false
 
 -- the expression is such a literal
 abbrev pub is_literal : LiteralKind → Expression → Bool
+is_literal literals.Boolean (expressions.Basic b) = is_truth b
+is_literal literals.Boolean (expressions.List bs) = false
 is_literal literals.Integer (expressions.Basic b) = is_number b
 is_literal literals.Integer (expressions.List bs) = false
 is_literal literals.List (expressions.Basic b) = false
@@ -43,6 +54,13 @@ abbrev pub named_by : Expression → Option (List ℕ)
 named_by (expressions.Basic b) = name_in b
 named_by (expressions.List bs) = None
 
+-- the value of a parameter where it is a truth value
+abbrev pub boolean_value : ParameterType → Expression → Option Expression
+boolean_value types.Bool v = Some v
+boolean_value types.Int v = None
+boolean_value types.Float v = None
+boolean_value (types.SetOf e) v = None
+
 -- the value of a parameter where it is an integer
 abbrev pub integer_value : ParameterType → Expression → Option Expression
 integer_value types.Bool v = None
@@ -50,8 +68,12 @@ integer_value types.Int v = Some v
 integer_value types.Float v = None
 integer_value (types.SetOf e) v = None
 
--- the value of a declaration whose name may stand for such a literal: of an integer parameter, or of an array
+-- the value of a declaration whose name may stand for such a literal: of a Boolean or an integer parameter, or of an array
 abbrev pub value_for : LiteralKind → Declaration → Option Expression
+value_for literals.Boolean (Parameter p) = boolean_value p.element p.value
+value_for literals.Boolean (Variable v) = None
+value_for literals.Boolean (ParameterArray a) = None
+value_for literals.Boolean (VariableArray a) = None
 value_for literals.Integer (Parameter p) = integer_value p.element p.value
 value_for literals.Integer (Variable v) = None
 value_for literals.Integer (ParameterArray a) = None

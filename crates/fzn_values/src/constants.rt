@@ -1,5 +1,5 @@
 //! The values of the names of a text.
-ghost use Rattle.std.specs.Prelude.{◌≡◌, ◌↔◌, ℕ, ℤ, List, slice_get, Some, IfOk, IfSome, IsTrue, MatchOption, option_copied};
+ghost use Rattle.std.specs.Prelude.{◌≡◌, ◌↔◌, ℕ, ℤ, Bool, List, slice_get, Some, IfOk, IfSome, IsTrue, MatchOption, option_copied};
 ghost use Rattle.fzn_syntax.specs.declared.declaration.Declaration.{Declaration};
 ghost use Rattle.fzn_syntax.specs.declared.expression.Basic.{Basic};
 ghost use Rattle.fzn_syntax.specs.declared.expression.Expression.{Expression};
@@ -7,18 +7,24 @@ ghost use Rattle.fzn_symbols.specs.Named.{names_of, AreDifferent};
 ghost use Rattle.fzn_values.specs.declared.entry.Entry.{Entry as EntryOf};
 ghost use Rattle.fzn_values.specs.declared.literal.LiteralKind.TheVariants as literals;
 ghost use Rattle.fzn_values.specs.Links.{AreLiterals, IsLiteralOf, NameStandsFor, NamesListAt};
-ghost use Rattle.fzn_values.specs.Constants.{IsIntOf, IsListOf, IsListAt, AreInts, AreIntsOf, IsEntryOf, IsVariableOf, NamesVariableAt, IsIntegerVariable, HasOneInteger, HasOneList};
+ghost use Rattle.fzn_values.specs.Constants.{IsTruthOf, IsIntOf, IsListOf, IsListAt, AreInts, AreIntsOf, IsEntryOf, IsVariableOf, NamesVariableAt, IsIntegerVariable, HasOneTruth, HasOneInteger, HasOneList};
 
 use crate::entry::Entry;
 use crate::link::links_of;
 use crate::literal::{
-    LiteralKind, integer_in, integer_of, is_literal, list_in, name_in, named_by, value_for,
+    LiteralKind, integer_in, integer_of, is_literal, list_in, name_in, named_by, truth_in,
+    truth_of, value_for,
 };
 use chains::{Ends, ends_of};
 use fzn_symbols::{Base, Scope, Sort, sort_of};
 use fzn_syntax::{Basic, Declaration, Expression};
 use std::alloc::{AllocError, Global};
 use std::marker::Model;
+
+/// An expression has one truth value at most.
+pub fn one_truth()
+    ensures { HasOneTruth }
+{}
 
 /// An expression has one integer as its value at most.
 pub fn one_integer()
@@ -34,6 +40,7 @@ pub fn one_list()
 #[derive(Drop)]
 pub struct Constants<'a> {
     scope: &'a Scope<'a>,
+    truths: Ends,
     integers: Ends,
     lists: Ends,
 }
@@ -41,15 +48,13 @@ pub struct Constants<'a> {
 impl<'a> Model for Constants<'a> {
     ghost use Rattle.std.specs.Prelude.{List};
     ghost use Rattle.fzn_syntax.specs.declared.declaration.Declaration.{Declaration};
-    ghost use Rattle.fzn_symbols.specs.Named.{names_of, AreDifferent};
-    ghost use Rattle.fzn_values.specs.declared.literal.LiteralKind.TheVariants as literals;
-    ghost use Rattle.fzn_values.specs.Links.{AreLiterals};
+    ghost use Rattle.fzn_values.specs.Links.{AreEndsOfKinds};
 
     ghost Value = { List Declaration };
 
     ghost view = { λ v. v.scope.now };
 
-    ghost invariant = { λ v. AreLiterals v.scope.now literals.Integer v.integers × AreLiterals v.scope.now literals.List v.lists × AreDifferent (names_of v.scope.now) };
+    ghost invariant = { λ v. AreEndsOfKinds v.scope.now v.truths v.integers v.lists };
 }
 
 fn declaration_at<'a>(scope: &Scope<'a>, place: usize) -> Option<&'a Declaration>
@@ -72,10 +77,12 @@ impl<'a> Constants<'a> {
     pub fn new(alloc: Global, scope: &'a Scope<'a>) -> Result<Constants<'a>, AllocError>
         ensures { IfOk result (λ v. v ≡ scope.now) }
     {
+        let truths = literals_of(alloc, scope, LiteralKind::Boolean)?;
         let integers = literals_of(alloc, scope, LiteralKind::Integer)?;
         let lists = literals_of(alloc, scope, LiteralKind::List)?;
         Ok(Constants {
             scope,
+            truths,
             integers,
             lists,
         })
@@ -91,6 +98,7 @@ impl<'a> Constants<'a> {
         ensures { (d : Declaration) → slice_get self.now place ≡ Some d → IsLiteralOf self.now literal d result }
     {
         match literal {
+            LiteralKind::Boolean => self.truths.at(place),
             LiteralKind::Integer => self.integers.at(place),
             LiteralKind::List => self.lists.at(place),
         }
@@ -107,6 +115,21 @@ impl<'a> Constants<'a> {
                     None => None,
                     Some(declaration) => value_for(literal, declaration),
                 },
+            },
+        }
+    }
+
+    /// The truth value that the expression has.
+    pub fn truth_of(&self, basic: &Basic) -> Option<bool>
+        ensures is { MatchOption result ((t : Bool) → IsTruthOf self.now basic.now t → ⊥) (IsTruthOf self.now basic.now) }
+        ensures only { IfSome result (λ t. (u : Bool) → IsTruthOf self.now basic.now u → u ≡ t) }
+    {
+        let _names_are_different = &self.scope;
+        match name_in(basic) {
+            None => truth_in(basic),
+            Some(name) => match self.literal_named(LiteralKind::Boolean, name) {
+                None => None,
+                Some(literal) => truth_of(literal),
             },
         }
     }

@@ -6,7 +6,7 @@ mod entry;
 mod link;
 mod literal;
 
-pub use constants::{Constants, one_integer, one_list};
+pub use constants::{Constants, one_integer, one_list, one_truth};
 pub use entry::Entry;
 pub use literal::{LiteralKind, is_literal, value_for};
 

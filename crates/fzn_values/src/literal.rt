@@ -1,17 +1,31 @@
 //! What a name may stand for.
 ghost use Rattle.std.specs.Prelude.{◌≡◌, MatchOption, option_copied, true, false};
 ghost use Rattle.fzn_syntax.specs.declared.expression.Expression.TheVariants as expressions;
-ghost use Rattle.fzn_values.specs.Literals.{is_number, is_literal, name_in, named_by, integer_value, value_for};
+ghost use Rattle.fzn_values.specs.Literals.{is_truth, is_number, is_literal, name_in, named_by, boolean_value, integer_value, value_for};
 ghost use Rattle.fzn_values.specs.declared.literal.LiteralKind.TheVariants as literals;
-ghost use Rattle.fzn_values.specs.Constants.{number};
+ghost use Rattle.fzn_values.specs.Constants.{truth, number};
 
 use fzn_syntax::{Basic, Declaration, Expression, Number, ParameterType};
 
-/// What a name may stand for: an integer, or the list of an array.
+/// What a name may stand for: a truth value, an integer, or the list of an array.
 #[derive(Clone, Copy, Debug, PartialEq, Eq, Drop)]
 pub enum LiteralKind {
+    Boolean,
     Integer,
     List,
+}
+
+fn is_truth(basic: &Basic) -> bool
+    ensures { result ≡ is_truth basic.now }
+{
+    match basic {
+        Basic::True => true,
+        Basic::False => true,
+        Basic::Name(_) => false,
+        Basic::Number(_) => false,
+        Basic::Range(_) => false,
+        Basic::Set(_) => false,
+    }
 }
 
 fn is_number(basic: &Basic) -> bool
@@ -28,12 +42,22 @@ fn is_number(basic: &Basic) -> bool
     }
 }
 
+fn is_basic_literal(literal: LiteralKind, basic: &Basic) -> bool
+    ensures { result ≡ is_literal literal (expressions.Basic basic.now) }
+{
+    match literal {
+        LiteralKind::Boolean => is_truth(basic),
+        LiteralKind::Integer => is_number(basic),
+        LiteralKind::List => false,
+    }
+}
+
 /// Whether the expression is such a literal itself.
 pub fn is_literal(literal: LiteralKind, expression: &Expression) -> bool
     ensures { result ≡ is_literal literal expression.now }
 {
     match expression {
-        Expression::Basic(basic) => literal == LiteralKind::Integer && is_number(basic),
+        Expression::Basic(basic) => is_basic_literal(literal, basic),
         Expression::List(_) => literal == LiteralKind::List,
     }
 }
@@ -61,6 +85,17 @@ pub(crate) fn named_by(expression: &Expression) -> Option<&[u8]>
     }
 }
 
+fn boolean_value<'a>(element: &ParameterType, value: &'a Expression) -> Option<&'a Expression>
+    ensures { option_copied result ≡ boolean_value element.now value.now }
+{
+    match element {
+        ParameterType::Bool => Some(value),
+        ParameterType::Int => None,
+        ParameterType::Float => None,
+        ParameterType::SetOf(_) => None,
+    }
+}
+
 fn integer_value<'a>(element: &ParameterType, value: &'a Expression) -> Option<&'a Expression>
     ensures { option_copied result ≡ integer_value element.now value.now }
 {
@@ -69,6 +104,17 @@ fn integer_value<'a>(element: &ParameterType, value: &'a Expression) -> Option<&
         ParameterType::Int => Some(value),
         ParameterType::Float => None,
         ParameterType::SetOf(_) => None,
+    }
+}
+
+fn boolean_value_of(declaration: &Declaration) -> Option<&Expression>
+    ensures { option_copied result ≡ value_for literals.Boolean declaration.now }
+{
+    match declaration {
+        Declaration::Parameter(parameter) => boolean_value(&parameter.element, &parameter.value),
+        Declaration::Variable(_) => None,
+        Declaration::ParameterArray(_) => None,
+        Declaration::VariableArray(_) => None,
     }
 }
 
@@ -99,8 +145,32 @@ pub fn value_for(literal: LiteralKind, declaration: &Declaration) -> Option<&Exp
     ensures { option_copied result ≡ value_for literal declaration.now }
 {
     match literal {
+        LiteralKind::Boolean => boolean_value_of(declaration),
         LiteralKind::Integer => integer_value_of(declaration),
         LiteralKind::List => list_value_of(declaration),
+    }
+}
+
+// The truth value that is written there.
+pub(crate) fn truth_in(basic: &Basic) -> Option<bool>
+    ensures { MatchOption result (is_truth basic.now ≡ false) (λ t. basic.now ≡ truth t) }
+{
+    match basic {
+        Basic::True => Some(true),
+        Basic::False => Some(false),
+        Basic::Name(_) => None,
+        Basic::Number(_) => None,
+        Basic::Range(_) => None,
+        Basic::Set(_) => None,
+    }
+}
+
+pub(crate) fn truth_of(expression: &Expression) -> Option<bool>
+    ensures { MatchOption result (is_literal literals.Boolean expression.now ≡ false) (λ t. expression.now ≡ expressions.Basic (truth t)) }
+{
+    match expression {
+        Expression::Basic(basic) => truth_in(basic),
+        Expression::List(_) => None,
     }
 }
 

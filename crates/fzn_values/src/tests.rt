@@ -1,5 +1,7 @@
 //! Names of short texts.
-use crate::{Constants, Entry, LiteralKind, is_literal, one_integer, one_list, value_for};
+use crate::{
+    Constants, Entry, LiteralKind, is_literal, one_integer, one_list, one_truth, value_for,
+};
 use fzn_lex::lex;
 use fzn_symbols::{Scope, scope_of};
 use fzn_syntax::{Basic, Expression, Items, parse};
@@ -26,23 +28,32 @@ array [1..2] of int: one = other;
 array [1..2] of int: other = [a,4];
 array [1..1] of int: round = round;
 array [1..2] of var int: xs = [x,b];
-constraint p([7,a,b,c,d,e,f,t,x,true,1..2,{1}],one,[a,c],round,a);
+bool: u = w;
+bool: w = false;
+bool: r = r;
+var bool: v;
+constraint p([7,a,b,c,d,e,f,t,x,true,1..2,{1},false,u,w,r,v],one,[a,c],round,a);
 solve satisfy;
 ";
 
-const VALUES: [(Option<i64>, Option<Entry>); 12] = [
-    (Some(7), Some(Entry::Constant(7))),
-    (Some(3), Some(Entry::Constant(3))),
-    (Some(3), Some(Entry::Constant(3))),
-    (Some(3), Some(Entry::Constant(3))),
-    (None, None),
-    (None, None),
-    (None, None),
-    (None, None),
-    (None, Some(Entry::Variable(7))),
-    (None, None),
-    (None, None),
-    (None, None),
+const VALUES: [(Option<i64>, Option<bool>, Option<Entry>); 17] = [
+    (Some(7), None, Some(Entry::Constant(7))),
+    (Some(3), None, Some(Entry::Constant(3))),
+    (Some(3), None, Some(Entry::Constant(3))),
+    (Some(3), None, Some(Entry::Constant(3))),
+    (None, None, None),
+    (None, None, None),
+    (None, None, None),
+    (None, Some(true), None),
+    (None, None, Some(Entry::Variable(7))),
+    (None, Some(true), None),
+    (None, None, None),
+    (None, None, None),
+    (None, Some(false), None),
+    (None, Some(false), None),
+    (None, Some(false), None),
+    (None, None, None),
+    (None, None, None),
 ];
 
 fn tells_values<R: Abort>(
@@ -53,10 +64,11 @@ fn tells_values<R: Abort>(
 ) -> Result<(), Fail> {
     let values = Constants::new(alloc, scope)?;
     shared(&values);
-    assert_eq!(rt; values.scope().declarations().len(), 12);
-    assert_eq!(rt; basics.len(), 12);
-    for (basic, (value, entry)) in basics.iter().zip(VALUES) {
+    assert_eq!(rt; values.scope().declarations().len(), 16);
+    assert_eq!(rt; basics.len(), 17);
+    for (basic, (value, truth, entry)) in basics.iter().zip(VALUES) {
         assert!(rt; values.int_of(basic) == value, "its value");
+        assert!(rt; values.truth_of(basic) == truth, "its truth value");
         assert!(rt; values.entry_of(basic) == entry, "its entry");
     }
     Ok(())
@@ -65,6 +77,7 @@ fn tells_values<R: Abort>(
 #[test]
 fn names_have_the_values_of_their_values(rt: HostRuntime) -> Result<(), Fail> {
     one_integer();
+    one_truth();
     let items = items(rt.alloc(), DECLARED)?;
     let scope = scope_of(rt.alloc(), &items)?;
     for constraint in items.constraints.as_slice() {

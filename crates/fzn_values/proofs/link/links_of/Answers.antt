@@ -1,5 +1,3 @@
-use Rattle.std.proofs.Common.{arith}
-use Rattle.std.proofs.lemmas.List.{length_push}
 use Rattle.fzn_symbols.proofs.Places.{item_at}
 use Rattle.fzn_values.proofs.Chained.{links_more, links_whole, links_size}
 use Rattle.fzn_values.proofs.link.links_of.Goals as goal

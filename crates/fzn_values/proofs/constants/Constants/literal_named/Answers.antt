@@ -1,4 +1,4 @@
-use Rattle.std.proofs.Common.{◌≡◌, ℕ, List, slice_get, Option, None, Some, sym, subst}
+use Rattle.std.proofs.Common.{◌≡◌, List, slice_get, None, Some, sym, subst}
 use Rattle.fzn_syntax.specs.declared.declaration.Declaration.{Declaration}
 use Rattle.fzn_symbols.specs.Named.{names_of, AreDifferent, IsPlaced, IsUndeclared}
 use Rattle.fzn_values.proofs.Named.{end_stands}
@@ -12,7 +12,7 @@ returns-in-None c =
 pub returns-in-None-end_of : goal.returns-in-None-end_of
 returns-in-None-end_of c =
     let p : IsPlaced c.args.self.now c.args.name.now c.in-Some.place = subst (λ (ds : List Declaration). IsPlaced ds c.args.name.now c.in-Some.place) c.self.view_is c.in-Some.ensures in
-    let different : AreDifferent (names_of c.args.self.now) = subst (λ (ds : List Declaration). AreDifferent (names_of ds)) c.self.view_is c.self.invariant.2 in
+    let different : AreDifferent (names_of c.args.self.now) = subst (λ (ds : List Declaration). AreDifferent (names_of ds)) c.self.view_is c.self.invariant.different in
     name_has_none c.args.self.now c.args.literal c.args.name.now c.in-Some.place p.0 p.1 (c.in-Some.place, p.1, p.2) different (c.in-None-end_of.ensures p.0 p.1)
 
 pub returns-in-None-declaration_at : goal.returns-in-None-declaration_at

@@ -10,5 +10,5 @@ returns-in-None c = no_variable c.args.self.now c.args.name.now (subst (λ (ds :
 pub returns-else-is_variable : goal.returns-else-is_variable
 returns-else-is_variable c =
     let p : IsPlaced c.args.self.now c.args.name.now c.in-Some.place = subst (λ (ds : List Declaration). IsPlaced ds c.args.name.now c.in-Some.place) c.self.view_is c.in-Some.ensures in
-    let different : AreDifferent (names_of c.args.self.now) = subst (λ (ds : List Declaration). AreDifferent (names_of ds)) c.self.view_is c.self.invariant.2 in
+    let different : AreDifferent (names_of c.args.self.now) = subst (λ (ds : List Declaration). AreDifferent (names_of ds)) c.self.view_is c.self.invariant.different in
     other_variable c.args.self.now c.args.name.now c.in-Some.place different p (λ v. let t = c.is_variable.ensures.1 v in let f = c.if-is_variable.false in absurd cc)
