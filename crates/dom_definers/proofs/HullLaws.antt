@@ -1,22 +1,23 @@
--- A definition's hull reads the hulls of its inputs alone.
-use Rattle.std.proofs.Common.{◌≡◌, ℕ, ◌≤◌, ◌^◌, Bool, true, ◌&&◌, List, [], ◌∷◌, ◌≤ℤ◌, refl, sym, ◌∙◌, ap, subst, arith, Option, Some, None, if◌then◌else◌, nat_lt}
+-- A definition's hull reads the hulls of what the definition reads, and of nothing else.
+use Rattle.std.proofs.Common.{◌≡◌, ℕ, ◌≤◌, ◌^◌, Bool, true, false, ◌&&◌, List, [], ◌∷◌, ◌≤ℤ◌, refl, sym, ◌∙◌, ap, subst, arith, Option, Some, None, if◌then◌else◌, nat_lt, int_le}
 use Rattle.std.proofs.lemmas.Int.{ints}
-use Rattle.any_kind.specs.Any.{any_functional, any_inputs, any_size, any_ranged, any_defined}
-use Rattle.any_kind.specs.AnyLaws.{any-monotone}
-use Rattle.any_kind.specs.Never.{never}
+use Rattle.any_kind.specs.Any.{any_functional, any_inputs, any_measured, any_size, any_ranged, any_defined, any_vars}
+use Rattle.any_kind.specs.AnyLaws.{any-measured, any-measured_inputs, any-monotone}
 use Rattle.any_kind.specs.declared.any.AnyKind.{AnyKind}
 use Rattle.any_kind.specs.declared.any.AnyKind.TheVariants.{Linear, LinearOutput, LinearReified, InSet, BoolClause, BoolClauseReified, And, Or, Xor}
 use Rattle.dom_core.specs.Ends.{Ends, IsOrdered}
 use Rattle.dom_core.proofs.EndsLaws.{same_ends}
 use Rattle.dom_core.proofs.TestLaws.{and_first, and_second}
 use Rattle.dom_core.specs.declared.var_id.VarId.{VarId}
-use Rattle.kind_law.specs.Laws.{Each, AreSmall, AreWithin, EndsIn, small_ends}
-use Rattle.kind_law.proofs.ArgumentLaws.{each_listed}
-use Rattle.kind_law.proofs.EachLaws.{each_map}
+use Rattle.kind_law.specs.Argument.{is_listed}
+use Rattle.kind_law.specs.Laws.{Each, AreAmong, AreSmall, AreWithin, EndsIn, small_ends}
+use Rattle.kind_law.proofs.ArgumentLaws.{each_listed, each_new_arg, listed}
+use Rattle.kind_law.proofs.EachLaws.{each_all, each_both, each_map}
 use Rattle.kind_law.specs.declared.argument.Reading.TheVariants.{Values}
 use Rattle.kind_linear.specs.LinearOutput.{rest_of}
 use Rattle.kind_sum.specs.Sum.{vars_of}
 use Rattle.kind_sum.specs.SumLaws.{magnitude_within}
+use Rattle.dom_definers.specs.Definers.{reads_of}
 use Rattle.dom_definers.specs.Hulls.{hull_at, span_of, spans, is_known, all_known, small_or_none, defined_hull, hull_by, IsSmallHull, AreSmallHulls}
 
 -- ---- spans of hulls
@@ -38,11 +39,53 @@ small_each hs (u ∷ us) s k =
 pub known_small : (hs : List (Option Ends)) (vars : List VarId) → AreSmallHulls hs → all_known hs vars ≡ true → AreSmall vars (spans hs)
 known_small hs vars s k = record { parts = small_each hs vars s k }
 
--- ---- hulls that agree on the inputs
+-- ---- what a definition reads
+
+among_each : (P : VarId → Type 0) (few many : List VarId) → AreAmong few many → Each P many → Each P few
+among_each P few many among h = each_map (λ u. is_listed u many ≡ true) P few (λ u e. listed P u many e h) among
+
+vars_inputs : (P : VarId → Type 0) (k : AnyKind) → Each P (any_vars k) → Each P (any_inputs k)
+vars_inputs P (Linear k) h = tt
+vars_inputs P (LinearOutput k) h = among_each P (any_measured (LinearOutput k)) (any_vars (LinearOutput k)) (any-measured (LinearOutput k)) h
+vars_inputs P (LinearReified k) h = among_each P (any_measured (LinearReified k)) (any_vars (LinearReified k)) (any-measured (LinearReified k)) h
+vars_inputs P (InSet k) h = tt
+vars_inputs P (BoolClause k) h = tt
+vars_inputs P (BoolClauseReified k) h = (each_new_arg P (any_inputs (BoolClauseReified k)) k.output h).0
+vars_inputs P (And k) h = (each_new_arg P (any_inputs (And k)) k.output h).0
+vars_inputs P (Or k) h = (each_new_arg P (any_inputs (Or k)) k.output h).0
+vars_inputs P (Xor k) h = (each_new_arg P (any_inputs (Xor k)) k.output h).0
+
+-- what holds of each variable that a definition reads holds of its inputs
+pub read_inputs : (P : VarId → Type 0) (k : AnyKind) → Each P (reads_of k) → Each P (any_inputs k)
+read_inputs P k h =
+    let step : (b : Bool) → Each P (if b then any_inputs k else any_vars k) → Each P (any_inputs k) =
+    λ b. elim b as (λ b. Each P (if b then any_inputs k else any_vars k) → Each P (any_inputs k))
+    [ true ↦ λ e. e | false ↦ λ e. vars_inputs P k e ] in
+    step (any_functional k) h
+
+-- likewise of the variables of its sum or product
+read_measured : (P : VarId → Type 0) (k : AnyKind) → Each P (reads_of k) → Each P (any_measured k)
+read_measured P k h =
+    let step : (b : Bool) → any_functional k ≡ b → Each P (if b then any_inputs k else any_vars k) → Each P (any_measured k) =
+    λ b. elim b as (λ b. any_functional k ≡ b → Each P (if b then any_inputs k else any_vars k) → Each P (any_measured k)) [
+      | true ↦ λ f e. among_each P (any_measured k) (any_inputs k) (any-measured_inputs k f) e
+      | false ↦ λ f e. among_each P (any_measured k) (any_vars k) (any-measured k) e
+    ] in
+    step (any_functional k) refl h
+
+-- ---- hulls that agree on what is read
 
 -- two lists have the same hulls of the variables
 abbrev pub AreSame : List (Option Ends) → List (Option Ends) → List VarId → Type 0
 AreSame hs gs vars = Each (λ u. hull_at hs u.0 ≡ hull_at gs u.0) vars
+
+-- the hulls of the variables, where there are any, have an integer
+abbrev pub AreOrdered : List (Option Ends) → List VarId → Type 0
+AreOrdered hs vars = Each (λ u. IsOrdered (spans hs u.0)) vars
+
+-- small hulls have an integer
+pub small_ordered : (hs : List (Option Ends)) (vars : List VarId) → AreSmallHulls hs → AreOrdered hs vars
+small_ordered hs vars s = each_all (λ u. IsOrdered (spans hs u.0)) vars (λ u. ordered_one (hull_at hs u.0) (s u.0))
 
 same_known : (hs gs : List (Option Ends)) (vars : List VarId) → AreSame hs gs vars → all_known hs vars ≡ all_known gs vars
 same_known hs gs [] e = refl
@@ -51,15 +94,21 @@ same_known hs gs (u ∷ us) e = ap (λ (h : Option Ends). is_known h && all_know
 in_self : (a b : Ends) → IsOrdered a → a ≡ b → EndsIn a b
 in_self a b o e = subst (λ (x : Ends). EndsIn a x) e (record { low = omega (arith, ints); order = o; high = omega (arith, ints) })
 
-within_same : (hs gs : List (Option Ends)) (vars : List VarId) → AreSmallHulls hs → AreSame hs gs vars → AreWithin vars (spans hs) (spans gs)
-within_same hs gs vars s e =
+within_same : (hs gs : List (Option Ends)) (vars : List VarId) → AreOrdered hs vars → AreSame hs gs vars → AreWithin vars (spans hs) (spans gs)
+within_same hs gs vars o e =
     record {
-      parts = each_map (λ u. hull_at hs u.0 ≡ hull_at gs u.0) (λ u. EndsIn (spans hs u.0) (spans gs u.0)) vars
-          (λ u h. in_self (spans hs u.0) (spans gs u.0) (ordered_one (hull_at hs u.0) (s u.0)) (ap (λ (x : Option Ends). span_of x) h)) e;
+      parts = each_both (λ u. IsOrdered (spans hs u.0)) (λ u. hull_at hs u.0 ≡ hull_at gs u.0) (λ u. EndsIn (spans hs u.0) (spans gs u.0)) vars
+          (λ u p h. in_self (spans hs u.0) (spans gs u.0) p (ap (λ (x : Option Ends). span_of x) h)) o e;
     }
 
-turned : (hs gs : List (Option Ends)) (vars : List VarId) → AreSame hs gs vars → AreSame gs hs vars
-turned hs gs vars e = each_map (λ u. hull_at hs u.0 ≡ hull_at gs u.0) (λ u. hull_at gs u.0 ≡ hull_at hs u.0) vars (λ u h. sym h) e
+-- the same the other way round
+turned_same : (hs gs : List (Option Ends)) (vars : List VarId) → AreSame hs gs vars → AreSame gs hs vars
+turned_same hs gs vars e = each_map (λ u. hull_at hs u.0 ≡ hull_at gs u.0) (λ u. hull_at gs u.0 ≡ hull_at hs u.0) vars (λ u h. sym h) e
+
+turned_ordered : (hs gs : List (Option Ends)) (vars : List VarId) → AreOrdered hs vars → AreSame hs gs vars → AreOrdered gs vars
+turned_ordered hs gs vars o e =
+    each_both (λ u. IsOrdered (spans hs u.0)) (λ u. hull_at hs u.0 ≡ hull_at gs u.0) (λ u. IsOrdered (spans gs u.0)) vars
+    (λ u p h. subst (λ (x : Option Ends). IsOrdered (span_of x)) h p) o e
 
 both_in : (a b : Ends) → EndsIn a b → EndsIn b a → a ≡ b
 both_in a b p q =
@@ -72,17 +121,17 @@ both_in a b p q =
 both_sizes : (m n : ℕ) → m ≤ n → n ≤ m → m ≡ n
 both_sizes m n p q = omega (arith, p, q)
 
--- the size of a definition's sum or product over smaller intervals is no larger
-size_within : (k : AnyKind) (small large : ℕ → Ends) → any_functional k ≡ true → AreWithin (any_inputs k) small large → any_size k small ≤ any_size k large
-size_within (Linear k) small large f w = never _ f
-size_within (LinearOutput k) small large f w = magnitude_within (rest_of k) Values small large (each_listed (λ u. EndsIn (small u.0) (large u.0)) (vars_of (rest_of k)) w.parts)
-size_within (LinearReified k) small large f w = magnitude_within k.sum.terms Values small large (each_listed (λ u. EndsIn (small u.0) (large u.0)) (vars_of k.sum.terms) w.parts)
-size_within (InSet k) small large f w = never _ f
-size_within (BoolClause k) small large f w = never _ f
-size_within (BoolClauseReified k) small large f w = omega arith
-size_within (And k) small large f w = omega arith
-size_within (Or k) small large f w = omega arith
-size_within (Xor k) small large f w = omega arith
+-- the size of a constraint's sum or product over smaller intervals is no larger
+size_within : (k : AnyKind) (small large : ℕ → Ends) → AreWithin (any_measured k) small large → any_size k small ≤ any_size k large
+size_within (Linear k) small large w = magnitude_within k.terms Values small large (each_listed (λ u. EndsIn (small u.0) (large u.0)) (vars_of k.terms) w.parts)
+size_within (LinearOutput k) small large w = magnitude_within (rest_of k) Values small large (each_listed (λ u. EndsIn (small u.0) (large u.0)) (vars_of (rest_of k)) w.parts)
+size_within (LinearReified k) small large w = magnitude_within k.sum.terms Values small large (each_listed (λ u. EndsIn (small u.0) (large u.0)) (vars_of k.sum.terms) w.parts)
+size_within (InSet k) small large w = omega arith
+size_within (BoolClause k) small large w = omega arith
+size_within (BoolClauseReified k) small large w = omega arith
+size_within (And k) small large w = omega arith
+size_within (Or k) small large w = omega arith
+size_within (Xor k) small large w = omega arith
 
 -- where a definition has a value reads the inputs' intervals alone
 same_defined : (k : AnyKind) (s t : ℕ → Ends) → any_defined k s ≡ any_defined k t
@@ -96,24 +145,62 @@ same_defined (And k) s t = refl
 same_defined (Or k) s t = refl
 same_defined (Xor k) s t = refl
 
-module _ (k : AnyKind) (hs gs : List (Option Ends)) (fun : any_functional k ≡ true) (small : AreSmallHulls hs) (small_too : AreSmallHulls gs)
-    (same : AreSame hs gs (any_inputs k)) where
+module _ (k : AnyKind) (hs gs : List (Option Ends)) (ordered : AreOrdered hs (reads_of k)) (same : AreSame hs gs (reads_of k)) where
+  ordered_too : AreOrdered gs (reads_of k)
+  ordered_too = turned_ordered hs gs (reads_of k) ordered same
+
+  within_read : AreWithin (reads_of k) (spans hs) (spans gs)
+  within_read = within_same hs gs (reads_of k) ordered same
+
+  within_back : AreWithin (reads_of k) (spans gs) (spans hs)
+  within_back = within_same gs hs (reads_of k) ordered_too (turned_same hs gs (reads_of k) same)
+
   same_size : any_size k (spans hs) ≡ any_size k (spans gs)
-  same_size = both_sizes (any_size k (spans hs)) (any_size k (spans gs)) (size_within k (spans hs) (spans gs) fun (within_same hs gs (any_inputs k) small same))
-      (size_within k (spans gs) (spans hs) fun (within_same gs hs (any_inputs k) small_too (turned hs gs (any_inputs k) same)))
+  same_size = both_sizes (any_size k (spans hs)) (any_size k (spans gs))
+      (size_within k (spans hs) (spans gs) (record { parts = read_measured (λ u. EndsIn (spans hs u.0) (spans gs u.0)) k within_read.parts }))
+      (size_within k (spans gs) (spans hs) (record { parts = read_measured (λ u. EndsIn (spans gs u.0) (spans hs u.0)) k within_back.parts }))
 
   same_ranged : any_ranged k (spans hs) ≡ any_ranged k (spans gs)
-  same_ranged = both_in (any_ranged k (spans hs)) (any_ranged k (spans gs)) (any-monotone k (spans hs) (spans gs) (within_same hs gs (any_inputs k) small same))
-      (any-monotone k (spans gs) (spans hs) (within_same gs hs (any_inputs k) small_too (turned hs gs (any_inputs k) same)))
+  same_ranged = both_in (any_ranged k (spans hs)) (any_ranged k (spans gs))
+      (any-monotone k (spans hs) (spans gs) (record { parts = read_inputs (λ u. EndsIn (spans hs u.0) (spans gs u.0)) k within_read.parts }))
+      (any-monotone k (spans gs) (spans hs) (record { parts = read_inputs (λ u. EndsIn (spans gs u.0) (spans hs u.0)) k within_back.parts }))
+
+  same_inputs : all_known hs (any_inputs k) ≡ all_known gs (any_inputs k)
+  same_inputs = same_known hs gs (any_inputs k) (read_inputs (λ u. hull_at hs u.0 ≡ hull_at gs u.0) k same)
 
   same_given : defined_hull k hs ≡ defined_hull k gs
   same_given =
-      ap (λ (b : Bool). if b then (if nat_lt (2 ^ 100) (any_size k (spans hs)) then None else small_or_none (any_ranged k (spans hs))) else None) (same_known hs gs (any_inputs k) same)
+      ap (λ (b : Bool). if b then (if nat_lt (2 ^ 100) (any_size k (spans hs)) then None else small_or_none (any_ranged k (spans hs))) else None) same_inputs
       ∙ ap (λ (n : ℕ). if all_known gs (any_inputs k) then (if nat_lt (2 ^ 100) n then None else small_or_none (any_ranged k (spans hs))) else None) same_size
       ∙ ap (λ (e : Ends). if all_known gs (any_inputs k) then (if nat_lt (2 ^ 100) (any_size k (spans gs)) then None else small_or_none e) else None) same_ranged
 
-  -- a definition gives the same hull where the inputs' hulls are the same
+  -- a definition gives the same hull where the hulls of what it reads are the same
   pub same_hull : (declared : Option Ends) → hull_by k declared hs ≡ hull_by k declared gs
   same_hull declared =
       ap (λ (b : Bool). if b then defined_hull k hs else declared) (same_defined k (spans hs) (spans gs))
       ∙ ap (λ (h : Option Ends). if any_defined k (spans gs) then h else declared) same_given
+
+-- ---- the hull has an integer
+
+either_ordered : (b : Bool) (x y : Option Ends) → IsOrdered (span_of x) → IsOrdered (span_of y) → IsOrdered (span_of (if b then x else y))
+either_ordered true x y p q = p
+either_ordered false x y p q = q
+
+within_self : (hs : List (Option Ends)) (vars : List VarId) → AreOrdered hs vars → AreWithin vars (spans hs) (spans hs)
+within_self hs vars o =
+    record {
+      parts = each_map (λ u. IsOrdered (spans hs u.0)) (λ u. EndsIn (spans hs u.0) (spans hs u.0)) vars (λ u p. in_self (spans hs u.0) (spans hs u.0) p refl) o;
+    }
+
+-- the hull that a definition gives has an integer where the hulls of what it reads do
+pub ordered_hull : (k : AnyKind) (hs : List (Option Ends)) → AreOrdered hs (reads_of k) → (declared : Option Ends) → IsOrdered (span_of declared)
+    → IsOrdered (span_of (hull_by k declared hs))
+ordered_hull k hs read declared o =
+    let e = any_ranged k (spans hs) in
+    let ranged : IsOrdered (any_ranged k (spans hs)) =
+    (any-monotone k (spans hs) (spans hs) (within_self hs (any_inputs k) (read_inputs (λ u. IsOrdered (spans hs u.0)) k read))).order in
+    let none : IsOrdered (span_of None) = omega (arith, ints) in
+    let small : IsOrdered (span_of (small_or_none e)) = either_ordered (int_le small_ends.lo e.lo && int_le e.hi small_ends.hi) (Some e) None ranged none in
+    either_ordered (any_defined k (spans hs)) (defined_hull k hs) declared
+    (either_ordered (all_known hs (any_inputs k)) (if nat_lt (2 ^ 100) (any_size k (spans hs)) then None else small_or_none e) None
+    (either_ordered (nat_lt (2 ^ 100) (any_size k (spans hs))) None (small_or_none e) none small) none) o

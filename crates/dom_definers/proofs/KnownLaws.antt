@@ -32,13 +32,13 @@ kept_known false b c e f = absurd (cc)
 
 -- ---- places
 
-kept_at : (cs : List Posted) (hs : List (Option Ends)) (ds : List (Option ℕ)) (v : ℕ) → definer_at (kept_of cs hs ds) v ≡ kept_definer cs hs (definer_at ds v)
+pub kept_at : (cs : List Posted) (hs : List (Option Ends)) (ds : List (Option ℕ)) (v : ℕ) → definer_at (kept_of cs hs ds) v ≡ kept_definer cs hs (definer_at ds v)
 kept_at cs hs [] v = refl
 kept_at cs hs (d ∷ ds) zero = refl
 kept_at cs hs (d ∷ ds) (suc v) = kept_at cs hs ds v
 
 -- the constraint at a definer's place defines the variable
-definer_found : (cs : List Posted) (i v j : ℕ) → definer_from i cs v ≡ Some j → (c : Posted) × (k : ℕ) × (j ≡ i + k) × (slice_get cs k ≡ Some c) × (is_var c.defines v ≡ true)
+pub definer_found : (cs : List Posted) (i v j : ℕ) → definer_from i cs v ≡ Some j → (c : Posted) × (k : ℕ) × (j ≡ i + k) × (slice_get cs k ≡ Some c) × (is_var c.defines v ≡ true)
 definer_found [] i v j h = absurd (cc)
 definer_found (c ∷ cs) i v j h =
     let step : (b : Bool) → is_var c.defines v ≡ b → (if b then Some i else definer_from (suc i) cs v) ≡ Some j
@@ -54,7 +54,7 @@ same_place : (i k : ℕ) → suc i + k ≡ i + suc k
 same_place i k = omega arith
 
 -- no constraint at any place is too wide
-none_wide : (cs : List Posted) (i k : ℕ) (ds : List (Option ℕ)) (hs : List (Option Ends)) (c : Posted) → wide_from i cs ds hs ≡ None → slice_get cs k ≡ Some c
+pub none_wide : (cs : List Posted) (i k : ℕ) (ds : List (Option ℕ)) (hs : List (Option Ends)) (c : Posted) → wide_from i cs ds hs ≡ None → slice_get cs k ≡ Some c
     → is_too_wide c.kind (if_defined ds c.defines (i + k)) hs ≡ false
 none_wide [] i k ds hs c h g = absurd (cc)
 none_wide (d ∷ cs) i k ds hs c h g =
@@ -71,7 +71,7 @@ none_wide (d ∷ cs) i k ds hs c h g =
     ] g
 
 -- what is asked of the constraint at a place
-fit_at : (n : ℕ) (cs : List Posted) (i k : ℕ) (ds : List (Option ℕ)) (c : Posted) → AreFitFrom n i cs ds → slice_get cs k ≡ Some c → IsFitConstraint n c.kind (if_defined ds c.defines (i + k))
+pub fit_at : (n : ℕ) (cs : List Posted) (i k : ℕ) (ds : List (Option ℕ)) (c : Posted) → AreFitFrom n i cs ds → slice_get cs k ≡ Some c → IsFitConstraint n c.kind (if_defined ds c.defines (i + k))
 fit_at n [] i k ds c h g = absurd (cc)
 fit_at n (d ∷ cs) i zero ds c h g =
     subst (λ (p : Posted). IsFitConstraint n p.kind (if_defined ds p.defines (i + 0))) (same_Some d c g)

@@ -1,6 +1,7 @@
-mod DefinersLaws
-mod DependenceLaws
-mod HullLaws
-mod SolvingLaws
-mod WidthLaws
-mod KnownLaws
+pub mod DefinersLaws
+pub mod DependenceLaws
+pub mod HullLaws
+pub mod SolvingLaws
+pub mod WidthLaws
+pub mod KnownLaws
+pub mod OneLaws

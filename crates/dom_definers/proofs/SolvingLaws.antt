@@ -16,14 +16,14 @@ use Rattle.dom_definers.specs.Hulls.{AreFitDefiners, AreSmallHulls, IsFitDefiner
 use Rattle.dom_definers.specs.Variable.{declared_hull}
 use Rattle.dom_definers.specs.declared.posted.Posted.{Posted}
 use Rattle.dom_definers.specs.declared.variable.Variable.{Variable}
-use Rattle.dom_definers.proofs.HullLaws.{AreSame, same_hull}
+use Rattle.dom_definers.proofs.HullLaws.{AreOrdered, AreSame, same_hull, small_ordered}
 
 -- ---- places
 
-place_of : (xs : List ℕ) (x : ℕ) → Contains xs x → (i : ℕ) × (slice_get xs i ≡ Some x)
+pub place_of : (xs : List ℕ) (x : ℕ) → Contains xs x → (i : ℕ) × (slice_get xs i ≡ Some x)
 place_of xs x h = (h.0, slice_get_read xs (length xs) h.0 x refl h.1 (sym h.2))
 
-read_at : (xs : List ℕ) (i : ℕ) → i < length xs → slice_get xs i ≡ Some (get_or xs i 0)
+pub read_at : (xs : List ℕ) (i : ℕ) → i < length xs → slice_get xs i ≡ Some (get_or xs i 0)
 read_at xs i lt = slice_get_read xs (length xs) i (get_or xs i 0) refl lt (get_or_default xs i 0 (get_or xs i 0) lt)
 
 -- ---- what a definition reads
@@ -33,7 +33,7 @@ pub each_number : (P : ℕ → Type 0) (vs : List VarId) → ((b : ℕ) → Cont
 each_number P [] h = tt
 each_number P (u ∷ us) h = (h u.0 (0, omega arith, refl), each_number P us (λ b c. h b (suc c.0, omega (arith, c.1), c.2)))
 
-node_row : (cs : List Posted) (ds : List (Option ℕ)) (v : ℕ) → v < length ds → get_or (dependence cs ds) v [] ≡ numbers (reads_at cs (definer_at ds v))
+pub node_row : (cs : List Posted) (ds : List (Option ℕ)) (v : ℕ) → v < length ds → get_or (dependence cs ds) v [] ≡ numbers (reads_at cs (definer_at ds v))
 node_row cs [] v lt = absurd (omega (arith, lt))
 node_row cs (d ∷ ds) zero lt = refl
 node_row cs (d ∷ ds) (suc v) lt = node_row cs ds v (omega (arith, lt))
@@ -46,7 +46,7 @@ nodes cs (d ∷ ds) = ap suc (nodes cs ds)
 pub reads_inputs : (k : _) → any_functional k ≡ true → reads_of k ≡ any_inputs k
 reads_inputs k f = ap (λ (b : Bool). if b then any_inputs k else any_vars k) f
 
-below_numbers : (n : ℕ) (vs : List VarId) (b : ℕ) → AllBelow n vs → Contains (numbers vs) b → b < n
+pub below_numbers : (n : ℕ) (vs : List VarId) (b : ℕ) → AllBelow n vs → Contains (numbers vs) b → b < n
 below_numbers n [] b h c = absurd (omega (arith, c.1))
 below_numbers n (u ∷ us) b h (zero, lt, e) = subst (λ (m : ℕ). m < n) e h.0
 below_numbers n (u ∷ us) b h (suc i, lt, e) = below_numbers n us b h.1 (i, omega (arith, lt), e)
@@ -61,16 +61,16 @@ reads_below n cs (Some i) b f c = posted_below n (slice_get cs i) b f c
 
 -- ---- hulls that agree on what is read
 
-same_posted : (p : Option Posted) (n : ℕ) (declared : Option Ends) (hs gs : List (Option Ends)) → IsPostedDefinition n p → AreSmallHulls hs → AreSmallHulls gs
-    → AreSame hs gs (posted_reads p) → posted_hull p declared hs ≡ posted_hull p declared gs
-same_posted None n declared hs gs f s t e = refl
-same_posted (Some p) n declared hs gs f s t e =
-    same_hull p.kind hs gs f.functional s t (subst (λ (vs : List VarId). AreSame hs gs vs) (reads_inputs p.kind f.functional) e) declared
+same_posted : (p : Option Posted) (declared : Option Ends) (hs gs : List (Option Ends)) → AreOrdered hs (posted_reads p) → AreSame hs gs (posted_reads p)
+    → posted_hull p declared hs ≡ posted_hull p declared gs
+same_posted None declared hs gs o e = refl
+same_posted (Some p) declared hs gs o e = same_hull p.kind hs gs o e declared
 
-same_own : (cs : List Posted) (d : Option ℕ) (n : ℕ) (declared : Option Ends) (hs gs : List (Option Ends)) → IsFitDefiner n cs d → AreSmallHulls hs → AreSmallHulls gs
-    → AreSame hs gs (reads_at cs d) → own_hull cs d declared hs ≡ own_hull cs d declared gs
-same_own cs None n declared hs gs f s t e = refl
-same_own cs (Some i) n declared hs gs f s t e = same_posted (slice_get cs i) n declared hs gs f s t e
+-- the hulls by a definition are the same
+pub same_own : (cs : List Posted) (d : Option ℕ) (declared : Option Ends) (hs gs : List (Option Ends)) → AreOrdered hs (reads_at cs d) → AreSame hs gs (reads_at cs d)
+    → own_hull cs d declared hs ≡ own_hull cs d declared gs
+same_own cs None declared hs gs o e = refl
+same_own cs (Some i) declared hs gs o e = same_posted (slice_get cs i) declared hs gs o e
 
 -- ---- one hull more
 
@@ -81,23 +81,29 @@ order_below vs cs ds order k whole is_order l =
     let b : get_or order k 0 < length (dependence cs ds) = is_order.nodes (get_or order k 0) (k, l, get_or_default order k (get_or order k 0) 0 l) in
     omega (arith, b, nodes cs ds, whole)
 
--- what a node's definition reads stands before it
-pub read_before : (vs : List Variable) (cs : List Posted) (ds : List (Option ℕ)) (order : List ℕ) → length ds ≡ length vs → AreFitDefiners (length vs) cs ds
-    → IsOrder (dependence cs ds) order → (k b : ℕ) → k < length order → Contains (numbers (reads_at cs (definer_at ds (get_or order k 0)))) b
+-- a variable that a node's definition reads stands before it
+pub node_before : (vs : List Variable) (cs : List Posted) (ds : List (Option ℕ)) (order : List ℕ) → length ds ≡ length vs → IsOrder (dependence cs ds) order
+    → (k b : ℕ) → k < length order → b < length vs → Contains (numbers (reads_at cs (definer_at ds (get_or order k 0)))) b
     → (j : ℕ) × (j < k) × (slice_get order j ≡ Some b)
-read_before vs cs ds order whole fit is_order k b l c =
+node_before vs cs ds order whole is_order k b l q c =
     let node : get_or order k 0 < length vs = order_below vs cs ds order k whole is_order l in
-    let below : b < length (dependence cs ds) =
-    (let q : b < length vs = reads_below (length vs) cs (definer_at ds (get_or order k 0)) b (fit (get_or order k 0)) c in omega (arith, q, nodes cs ds, whole)) in
+    let below : b < length (dependence cs ds) = omega (arith, q, nodes cs ds, whole) in
     let row : Contains (get_or (dependence cs ds) (get_or order k 0) []) b =
     subst (λ (xs : List ℕ). Contains xs b) (sym (node_row cs ds (get_or order k 0) (omega (arith, node, whole)))) c in
     let there = place_of (take k order) b (is_order.behind k b l (below, row)) in
     let front = get_take order k there.0 b there.1 in
     (there.0, front.0, front.1)
 
+-- what a node's definition reads stands before it
+pub read_before : (vs : List Variable) (cs : List Posted) (ds : List (Option ℕ)) (order : List ℕ) → length ds ≡ length vs → AreFitDefiners (length vs) cs ds
+    → IsOrder (dependence cs ds) order → (k b : ℕ) → k < length order → Contains (numbers (reads_at cs (definer_at ds (get_or order k 0)))) b
+    → (j : ℕ) × (j < k) × (slice_get order j ≡ Some b)
+read_before vs cs ds order whole fit is_order k b l c =
+    node_before vs cs ds order whole is_order k b l (reads_below (length vs) cs (definer_at ds (get_or order k 0)) b (fit (get_or order k 0)) c) c
+
 module _ (vs : List Variable) (cs : List Posted) (ds : List (Option ℕ)) (order : List ℕ) (hs : List (Option Ends)) (i : ℕ) (hull : Option Ends)
     (whole : length ds ≡ length vs) (size : length hs ≡ length vs) (fit : AreFitDefiners (length vs) cs ds) (is_order : IsOrder (dependence cs ds) order)
-    (small : AreSmallHulls hs) (small_too : AreSmallHulls (set hs (get_or order i 0) hull)) (lt : i < length order) where
+    (small : AreSmallHulls hs) (lt : i < length order) where
   node_below : (k : ℕ) → k < length order → get_or order k 0 < length vs
   node_below k l = order_below vs cs ds order k whole is_order l
 
@@ -121,7 +127,8 @@ module _ (vs : List Variable) (cs : List Posted) (ds : List (Option ℕ)) (order
 
   kept : (k : ℕ) → k < i + 1 → (declared : Option Ends)
       → own_hull cs (definer_at ds (get_or order k 0)) declared hs ≡ own_hull cs (definer_at ds (get_or order k 0)) declared (set hs (get_or order i 0) hull)
-  kept k kl declared = same_own cs (definer_at ds (get_or order k 0)) (length vs) declared hs (set hs (get_or order i 0) hull) (fit (get_or order k 0)) small small_too (stay k kl)
+  kept k kl declared = same_own cs (definer_at ds (get_or order k 0)) declared hs (set hs (get_or order i 0) hull)
+      (small_ordered hs (reads_at cs (definer_at ds (get_or order k 0))) small) (stay k kl)
 
   pub next_hull : hull ≡ own_hull cs (definer_at ds (get_or order i 0)) (declared_or_none (slice_get vs (get_or order i 0))) hs
       → ((k : ℕ) → k < i → IsHull vs cs ds hs (get_or order k 0)) → (k : ℕ) → k < i + 1 → IsHull vs cs ds (set hs (get_or order i 0) hull) (get_or order k 0)

@@ -4,3 +4,4 @@ pub mod Hulls
 pub mod Domains
 pub mod Width
 pub mod Known
+pub mod One

@@ -9,6 +9,7 @@ mod form;
 mod hulls;
 mod keeping;
 mod known;
+mod one;
 mod posted;
 mod solving;
 #[cfg(test)]
@@ -24,6 +25,7 @@ pub use form::{Declared, Form};
 pub use hulls::Hulls;
 pub use keeping::kept_definers;
 pub use known::every_hull_is_known;
+pub use one::{definers_are_one, hulls_are_one};
 pub use posted::Posted;
 pub use solving::hulls_of;
 pub use variable::Variable;

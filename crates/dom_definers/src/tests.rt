@@ -226,6 +226,8 @@ fn expect_hulls(
         Some(hull) => assert_eq!(rt; (hull.lo(), hull.hi()), ends),
     }
     every_hull_is_known();
+    definers_are_one();
+    hulls_are_one();
     let kept = kept_definers(alloc, constraints, &definers, &hulls)?;
     assert_eq!(rt; kept.as_slice(), definers.as_slice());
     assert!(rt; kept.len() == 3);

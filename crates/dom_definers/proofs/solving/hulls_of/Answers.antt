@@ -3,7 +3,7 @@ use Rattle.std.proofs.Common.{◌∙◌, refl, sym, ap, subst, length, get_or, s
 use Rattle.std.proofs.lemmas.List.{length-set}
 use Rattle.dom_core.specs.Ends.{Ends}
 use Rattle.dom_definers.specs.Definers.{definer_at}
-use Rattle.dom_definers.specs.Hulls.{AreSmallHulls, IsHull, declared_or_none, own_hull}
+use Rattle.dom_definers.specs.Hulls.{IsHull, declared_or_none, own_hull}
 use Rattle.dom_definers.proofs.SolvingLaws.{order_below, next_hull, all_found}
 use Rattle.dom_definers.proofs.solving.hulls_of.Goals as goal
 
@@ -20,7 +20,7 @@ loop-node-preserved c =
       small = c.solve.ensures.small;
       found = λ k kl. subst (λ (hs : List (Option Ends)). IsHull c.args.variables.now c.args.constraints.now c.args.definers.now hs (get_or c.args.order.now k 0)) (sym c.solve.ensures.set)
           (next_hull c.args.variables.now c.args.constraints.now c.args.definers.now c.args.order.now c.loop-node.hulls c.loop-node.node-index hull c.requires.whole c.loop-node.invariant.size
-          c.requires.definers c.requires.order c.loop-node.invariant.small (subst AreSmallHulls c.solve.ensures.set c.solve.ensures.small) c.loop-node-test.true refl c.loop-node.invariant.found k kl);
+          c.requires.definers c.requires.order c.loop-node.invariant.small c.loop-node-test.true refl c.loop-node.invariant.found k kl);
     }
 
 pub returns : goal.returns
