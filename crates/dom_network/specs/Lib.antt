@@ -1,0 +1,6 @@
+pub mod Free
+pub mod Completion
+pub mod Network
+pub mod Place
+pub mod Filling
+pub mod NetworkLaws

@@ -1,0 +1,12 @@
+//! Constraint networks: the values that definitions give, and which assignments satisfy every constraint.
+#![tactic(auto)]
+
+mod admission;
+mod completion;
+mod laws;
+mod network;
+mod places;
+#[cfg(test)]
+mod tests;
+
+pub use network::Network;
