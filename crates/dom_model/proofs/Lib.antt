@@ -1,4 +1,12 @@
-pub mod Allowed
-pub mod Keys
-pub mod Order
-mod Products
+pub mod DraftLaws
+pub mod DefinerLaws
+pub mod NetworkLaws
+pub mod DomainLaws
+pub mod AllowedLaws
+pub mod FeasibleLaws
+pub mod OrderingLaws
+pub mod CycleLaws
+pub mod OutcomeLaws
+pub mod FinishLaws
+pub mod ModelLaws
+pub mod FoundLaws

@@ -1,38 +1,30 @@
 -- Which assignments are feasible, and which of them is the least.
-use Rattle.std.specs.Prelude.{◌≡◌, ℕ, zero, suc, ◌+◌, ◌*◌, ℤ, pos, List, [], ◌∷◌, map, length, All, ◌++◌}
+use Rattle.std.specs.Prelude.{◌≡◌, ℕ, ◌+◌, ◌*◌, ℤ, pos, neg_ℤ, List, ◌∷◌, length}
 use Rattle.std.specs.Cmp.Lexicographic.{slice_cmp}
 use Rattle.std.specs.Ordering.{int_cmp}
 use Rattle.std.specs.declared.cmp.Ordering.TheVariants.{Less}
 use Rattle.dom_core.specs.Assignment.{value_at}
-use Rattle.dom_core.specs.declared.var_id.VarId.{VarId}
+use Rattle.dom_domains.specs.Allowed.{EachAllowed}
 use Rattle.dom_model.specs.declared.goal.Goal.{Goal}
-use Rattle.dom_model.specs.declared.goal.Goal.TheVariants.{Satisfy, Minimize}
-use Rattle.dom_model.specs.Kind.{Holds}
+use Rattle.dom_model.specs.declared.goal.Goal.TheVariants.{Satisfy, Minimize, Maximize}
 use Rattle.dom_model.specs.Problem.{Problem}
-use Rattle.dom_model.specs.Variable.{EachAllowed, values_of}
+use Rattle.dom_network.specs.Completion.{MeetsEach}
+use Rattle.dom_network.specs.Free.{free_of, free_values, tuple_count_of}
 
--- every value is allowed, and every constraint holds
+-- every value is one that the declaration allows, and every constraint is satisfied
 pub record IsFeasible (p : Problem) (a : List ℤ) : Type 0 where
   pub allowed : EachAllowed p.variables a
-  pub satisfied : All (λ k. Holds k a) p.constraints
-
--- the variables with the first numbers, so many of them
-abbrev pub first_variables : ℕ → List VarId
-first_variables zero = []
-first_variables (suc n) = first_variables n ++ record { 0 = n } ∷ []
-
--- the free variables in tie order: as long as no constraint defines a variable, all of them
-abbrev pub free_of : Problem → List VarId
-free_of p = first_variables (length p.variables)
+  pub satisfied : MeetsEach p.network.constraints a
 
 -- what is to be small
 abbrev pub objective_of : Goal → List ℤ → ℤ
 objective_of Satisfy a = pos 0
 objective_of (Minimize x) a = value_at a x
+objective_of (Maximize x) a = neg_ℤ (value_at a x)
 
--- the objective, and then the values of the free variables in tie order
+-- the objective, and then the values of the free variables in order of declaration
 abbrev pub key_of : Problem → List ℤ → List ℤ
-key_of p a = objective_of p.goal a ∷ map (value_at a) (free_of p)
+key_of p a = objective_of p.goal a ∷ free_values p.network.definers a
 
 -- the first assignment has the smaller key, compared place by place
 abbrev pub IsBetter : Problem → List ℤ → List ℤ → Type 0
@@ -43,15 +35,6 @@ pub record IsLeast (p : Problem) (a : List ℤ) : Type 0 where
   pub feasible : IsFeasible p a
   pub least : (b : List ℤ) → IsFeasible p b → IsBetter p b a → ⊥
 
--- the lists of values of the free variables, in tie order
-abbrev pub domains_of : Problem → List (List ℤ)
-domains_of p = map (λ v. values_of v.declared) p.variables
-
--- the number of ways to choose one from each list
-abbrev pub tuple_count_of : List (List ℤ) → ℕ
-tuple_count_of [] = 1
-tuple_count_of (d ∷ ds) = length d * tuple_count_of ds
-
 -- one more than the number of free variables, times the number of their tuples of values
 abbrev pub width_of : Problem → ℕ
-width_of p = (length (free_of p) + 1) * tuple_count_of (domains_of p)
+width_of p = (length (free_of p.network.definers) + 1) * tuple_count_of p.network.domains

@@ -1,6 +1,6 @@
-pub mod Variable
-pub mod Kind
+pub mod Solved
+pub mod Draft
 pub mod Problem
 pub mod Least
-pub mod Bounds
+pub mod Finished
 pub mod Sound

@@ -1,19 +1,14 @@
 -- What contracts see of a model.
-use Rattle.std.specs.Prelude.{List, []}
+use Rattle.std.specs.Prelude.{List}
+use Rattle.dom_definers.specs.declared.variable.Variable.{Variable}
 use Rattle.dom_model.specs.declared.goal.Goal.{Goal}
-use Rattle.dom_model.specs.declared.goal.Goal.TheVariants.{Satisfy}
-use Rattle.dom_model.specs.declared.kind.AnyKind.{AnyKind}
 use Rattle.dom_model.specs.declared.output.Output.{Output}
-use Rattle.dom_model.specs.declared.variable.Variable.{Variable}
+use Rattle.dom_network.specs.Network.{Network}
 
--- the variables in order of declaration, the constraints in order of the text, what is asked, and
--- what is printed, in order of declaration
+-- the variables in order of declaration; the constraints, of which those that were posted come first, then the restrictions of
+-- defined variables, with definers, hulls and domains; what is asked, and what is printed
 pub record Problem : Type 0 where
   pub variables : List Variable
-  pub constraints : List AnyKind
+  pub network : Network
   pub goal : Goal
   pub outputs : List Output
-
--- a model without variables and constraints, which asks for any assignment
-abbrev pub empty_problem : Problem
-empty_problem = record { variables = []; constraints = []; goal = Satisfy; outputs = [] }

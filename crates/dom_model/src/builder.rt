@@ -1,28 +1,31 @@
+//! Models that are being put together.
 ghost use Rattle.std.specs.Prelude.{◌≡◌, ◌<◌, List, [], ◌∷◌, ◌++◌, length, IfOk, OnOk, OnErr};
-ghost use Rattle.dom_model.specs.Problem.{Problem, empty_problem};
-ghost use Rattle.dom_model.specs.Bounds.{IsBounded};
+ghost use Rattle.dom_model.specs.Draft.{AreFitOutputs, IsFitDraft, IsFitGoal, IsFitOutput, IsFitPosted, IsSmallDeclared, empty_draft};
+ghost use Rattle.dom_model.specs.Solved.{solved};
 
-use crate::form::{Declared, Form};
 use crate::goal::Goal;
-use crate::kind::AnyKind;
-use crate::model::{Model, all_domains};
 use crate::output::Output;
-use crate::variable::Variable;
+use crate::solved::solved;
+use any_kind::AnyKind;
 use dom_core::{Name, NoMemory, VarId};
+use dom_definers::{Declared, Form, Posted, Variable};
 use std::alloc::Global;
+use std::marker::Model;
 
 /// A model that is being put together.
 #[derive(Drop)]
 pub struct ModelBuilder {
-    alloc: Global,
-    variables: Vec<Variable>,
-    constraints: Vec<AnyKind>,
-    goal: Goal,
-    outputs: Vec<Output>,
+    pub(crate) alloc: Global,
+    pub(crate) variables: Vec<Variable>,
+    pub(crate) constraints: Vec<Posted>,
+    pub(crate) goal: Goal,
+    pub(crate) outputs: Vec<Output>,
 }
 
-impl std::marker::Model for ModelBuilder {
-    ghost Value = { Problem };
+impl Model for ModelBuilder {
+    ghost use Rattle.dom_model.specs.Draft.{Draft, IsFitDraft};
+
+    ghost Value = { Draft };
 
     ghost view = { λ b. record {
       variables = b.variables.items;
@@ -30,12 +33,19 @@ impl std::marker::Model for ModelBuilder {
       goal = b.goal;
       outputs = b.outputs.items;
     } };
+
+    ghost invariant = { λ b. IsFitDraft (record {
+      variables = b.variables.items;
+      constraints = b.constraints.items;
+      goal = b.goal;
+      outputs = b.outputs.items;
+    }) };
 }
 
 impl ModelBuilder {
-    /// A model without variables and constraints, which asks for any assignment.
+    /// No variables and no constraints, and any assignment will do.
     pub fn new(alloc: Global) -> ModelBuilder
-        ensures { result ≡ empty_problem }
+        ensures { result ≡ empty_draft }
     {
         ModelBuilder {
             alloc,
@@ -47,13 +57,15 @@ impl ModelBuilder {
     }
 
     /// Adds a variable behind those that are there, and gives its number.
+    #[tactic(auto, using(crate::proofs::DraftLaws::with_variable))]
     pub fn variable(
         &mut self,
         name: &str,
         form: Form,
         declared: Declared,
     ) -> Result<VarId, NoMemory>
-        requires { length self.old.variables < 100000 }
+        requires few { length self.old.variables < 100000 }
+        requires small { IsSmallDeclared declared }
         ensures number { IfOk result (λ x. x.0 ≡ length self.old.variables) }
         ensures ok { OnOk result (self.new ≡ record self.old {
           variables = self.old.variables ++ record { name = name.now; form = form; declared = declared } ∷ [];
@@ -70,52 +82,38 @@ impl ModelBuilder {
         Ok(VarId(number))
     }
 
-    /// Adds a constraint behind those that are there; none of the kinds that there are defines a variable.
+    /// Adds a constraint behind those that are there, and the variable that it is to define, if it is to define one. A linear equation is
+    /// solved for that variable. An equation of a variable with itself may be given too: its definition is cyclic.
+    #[tactic(auto, using(crate::proofs::DraftLaws::with_constraint))]
     pub fn constraint(&mut self, kind: AnyKind, defines: Option<VarId>) -> Result<(), NoMemory>
-        requires { defines ≡ None }
-        ensures ok { OnOk result (self.new ≡ record self.old { constraints = self.old.constraints ++ kind ∷ [] }) }
+        requires few { length self.old.constraints < 2147483648 }
+        requires fit { IsFitPosted (length self.old.variables) (record { kind = solved kind defines; defines = defines }) }
+        ensures ok { OnOk result (self.new ≡ record self.old {
+          constraints = self.old.constraints ++ record { kind = solved kind defines; defines = defines } ∷ [];
+        }) }
         ensures err { OnErr result (self.new ≡ self.old) }
     {
-        let _ = defines;
-        self.constraints.push(kind)?;
+        let kind = solved(self.alloc, kind, defines)?;
+        self.constraints.push(Posted { kind, defines })?;
         Ok(())
     }
 
     /// Asks this of the assignments, in place of what was asked before.
     pub fn goal(&mut self, goal: Goal)
+        requires { IsFitGoal (length self.old.variables) goal }
         ensures { self.new ≡ record self.old { goal = goal } }
     {
         self.goal = goal;
     }
 
     /// Marks what is printed behind all that was marked before.
+    #[tactic(auto, using(crate::proofs::DraftLaws::with_output))]
     pub fn output(&mut self, mark: Output) -> Result<(), NoMemory>
+        requires { IsFitOutput (length self.old.variables) mark }
         ensures ok { OnOk result (self.new ≡ record self.old { outputs = self.old.outputs ++ mark ∷ [] }) }
         ensures err { OnErr result (self.new ≡ self.old) }
     {
         self.outputs.push(mark)?;
         Ok(())
-    }
-
-    /// The model that was put together.
-    pub fn finish(self) -> Result<Model, NoMemory>
-        requires { IsBounded self }
-        ensures { IfOk result (λ model. model ≡ self) }
-    {
-        let domains = all_domains(self.alloc, self.variables.as_slice())?;
-        let ModelBuilder {
-            alloc: _,
-            variables,
-            constraints,
-            goal,
-            outputs,
-        } = self;
-        Ok(Model {
-            variables,
-            constraints,
-            goal,
-            outputs,
-            domains,
-        })
     }
 }

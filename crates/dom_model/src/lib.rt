@@ -1,20 +1,23 @@
-//! Models, what it means that an assignment is feasible, and which one is the least.
+//! Models: variables, constraints and a goal; which assignments are feasible, and which of them is the least.
 #![tactic(auto)]
 
+mod analysis;
 mod builder;
-mod form;
+mod error;
+mod finishing;
 mod goal;
-mod kind;
 mod model;
+mod outcome;
 mod output;
+mod solved;
 #[cfg(test)]
 mod tests;
-mod variable;
 
+pub use any_kind::AnyKind;
 pub use builder::ModelBuilder;
-pub use form::{Declared, Form};
+pub use dom_definers::{Declared, Form, Variable};
+pub use error::BuildError;
 pub use goal::Goal;
-pub use kind::AnyKind;
 pub use model::Model;
-pub use output::Output;
-pub use variable::Variable;
+pub use outcome::drafts_have_one_outcome;
+pub use output::{Args, Output};

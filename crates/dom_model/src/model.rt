@@ -1,27 +1,35 @@
-ghost use Rattle.std.specs.Prelude.{◌≡◌, ◌<◌, ◌≤◌, ◌≤ℤ◌, ◌↔◌, pos, length, map, replicate, slice_get, All, IfOk, IsTrue};
-ghost use Rattle.dom_model.specs.Problem.{Problem};
-ghost use Rattle.dom_core.specs.Rises.{count_of, range_of};
-ghost use Rattle.dom_model.specs.Bounds.{AreModest, IsBounded, IsFit, IsFitDeclared, IsModest};
-ghost use Rattle.dom_model.specs.Kind.{Holds};
-ghost use Rattle.dom_model.specs.Variable.{values_of, EachAllowed};
-ghost use Rattle.dom_model.specs.Least.{IsFeasible, IsBetter, objective_of, domains_of};
+//! Models.
+ghost use Rattle.std.specs.Prelude.{◌≡◌, ◌<◌, ◌≤◌, ◌↔◌, List, Some, None, pos, neg_ℤ, length, map, replicate, slice_get, IsTrue, IfOk};
+ghost use Rattle.std.specs.Cmp.Lexicographic.{slice_cmp};
+ghost use Rattle.std.specs.Ordering.{int_cmp};
+ghost use Rattle.dom_core.specs.Assignment.{value_at};
+ghost use Rattle.dom_core.specs.Domain.{IsDomain};
+ghost use Rattle.dom_definers.specs.Hulls.{hull_at};
+ghost use Rattle.dom_model.specs.Draft.{AreFitOutputs};
+ghost use Rattle.dom_model.specs.Least.{IsBetter, IsFeasible, objective_of};
+ghost use Rattle.dom_model.specs.Sound.{FeasibleIsCompleted};
+ghost use Rattle.dom_network.specs.Completion.{AreInHulls, IsCompletion};
+ghost use Rattle.dom_network.specs.Free.{IsTuple, free_of};
+ghost use Rattle.dom_network.specs.NetworkLaws.{HasOneCompletion};
+ghost use Rattle.dom_network.specs.Place.{IsPlace};
+ghost use Rattle.kind_law.specs.Laws.{AllBelow};
 
-use crate::form::Declared;
 use crate::goal::Goal;
-use crate::kind::AnyKind;
 use crate::output::Output;
-use crate::variable::Variable;
-use dom_core::{Assignment, Domain, Name, NoMemory, VarId};
+use any_kind::AnyKind;
+use dom_core::{Assignment, Domain, Interval, Name, NoMemory, VarId};
+use dom_definers::{Form, Variable};
+use dom_network::Network;
 use std::alloc::Global;
+use std::cmp::Ordering;
 
 /// A model: variables, constraints, what is asked, and what is printed.
 #[derive(Drop)]
 pub struct Model {
     pub(crate) variables: Vec<Variable>,
-    pub(crate) constraints: Vec<AnyKind>,
+    pub(crate) network: Network,
     pub(crate) goal: Goal,
     pub(crate) outputs: Vec<Output>,
-    pub(crate) domains: Vec<Domain>,
 }
 
 impl std::marker::Model for Model {
@@ -30,29 +38,20 @@ impl std::marker::Model for Model {
 
     ghost Value = { Problem };
 
-    ghost view = { λ m. record {
-      variables = m.variables.items;
-      constraints = m.constraints.items;
-      goal = m.goal;
-      outputs = m.outputs.items;
-    } };
+    ghost view = { λ m. record { variables = m.variables.items; network = m.network; goal = m.goal; outputs = m.outputs.items } };
 
-    ghost invariant = { λ m. IsSound
-        (record {
-          variables = m.variables.items;
-          constraints = m.constraints.items;
-          goal = m.goal;
-          outputs = m.outputs.items;
-        })
-        m.domains.items };
+    ghost invariant = { λ m. IsSound (record { variables = m.variables.items; network = m.network; goal = m.goal; outputs = m.outputs.items }) };
 }
 
 impl Model {
     /// How many variables there are.
     pub fn vars(&self) -> usize
         ensures count { result ≡ length self.now.variables }
-        ensures bounded { IsBounded self.now }
+        ensures few { length self.now.variables ≤ 100000 }
+        ensures whole { length self.now.network.definers ≡ length self.now.variables }
+        ensures hulls { length self.now.network.hulls ≡ length self.now.variables }
     {
+        let _network = self.network.vars();
         self.variables.len()
     }
 
@@ -64,24 +63,62 @@ impl Model {
         &self.variables[var.0 as usize].name
     }
 
-    /// The values of the variable.
-    pub fn domain(&self, var: VarId) -> &Domain
+    /// What the values of the variable stand for.
+    pub fn form(&self, var: VarId) -> Form
         requires { var.0 < length self.now.variables }
-        ensures { slice_get (domains_of self.now) var.0 ≡ Some result.now }
+        ensures { slice_get (map (λ v. v.form) self.now.variables) var.0 ≡ Some result }
     {
-        &self.domains[var.0 as usize]
+        self.variables[var.0 as usize].form
+    }
+
+    /// The variables that nothing defines, in order of declaration.
+    pub fn free(&self) -> &[VarId]
+        ensures free { result.now ≡ free_of self.now.network.definers }
+        ensures few { length result.now ≤ 4096 }
+        ensures domains { length self.now.network.domains ≡ length result.now }
+    {
+        self.network.free()
+    }
+
+    /// The variable's place among the free ones.
+    pub fn place(&self, var: VarId) -> Option<usize>
+        requires { var.0 < length self.now.variables }
+        ensures { IsPlace self.now.network.definers var.0 result }
+    {
+        let _network = self.network.vars();
+        self.network.place(var)
+    }
+
+    /// The values of the free variable at this place.
+    pub fn domain_at(&self, place: usize) -> &Domain
+        requires { place < length (free_of self.now.network.definers) }
+        ensures domain { slice_get self.now.network.domains place ≡ Some result.now }
+        ensures sound { IsDomain result.now }
+    {
+        let domain = self.network.domain(place);
+        let _size = domain.size();
+        domain
+    }
+
+    /// The least to the greatest value that the variable can have.
+    pub fn hull(&self, var: VarId) -> Interval
+        requires { var.0 < length self.now.variables }
+        ensures { hull_at self.now.network.hulls var.0 ≡ Some result }
+    {
+        let _network = self.network.vars();
+        self.network.hull(var)
     }
 
     pub fn constraints(&self) -> &[AnyKind]
-        ensures { result.now ≡ self.now.constraints }
+        ensures { result.now ≡ self.now.network.constraints }
     {
-        self.constraints.as_slice()
+        self.network.constraints()
     }
 
     /// What is printed of an answer, in order.
     pub fn outputs(&self) -> &[Output]
         ensures outputs { result.now ≡ self.now.outputs }
-        ensures bounded { IsBounded self.now }
+        ensures fit { AreFitOutputs (length self.now.variables) result.now }
     {
         self.outputs.as_slice()
     }
@@ -93,84 +130,91 @@ impl Model {
         Assignment::zeros(alloc, self.variables.len())
     }
 
-    /// Whether every constraint holds, and every value is allowed.
-    pub fn feasible(&self, assignment: &Assignment) -> bool
-        requires { EachAllowed self.now.variables assignment.now }
-        ensures { IsTrue result ↔ IsFeasible self.now assignment.now }
+    /// Writes these values of the free variables, and computes the others by their definitions.
+    pub fn complete(&self, free: &[i64], out: &mut Assignment)
+        requires values { IsTuple self.now.network.domains free.now }
+        requires whole { length out.old ≡ length self.now.variables }
+        ensures completion { IsCompletion self.now.network.constraints self.now.network.definers free.now out.new }
+        ensures hulls { AreInHulls self.now.network.hulls out.new }
     {
-        all_hold(self.constraints.as_slice(), assignment)
+        let _network = self.network.vars();
+        self.network.complete(free, out)
     }
 
-    /// What is to be small: the value that the goal names, or 0.
+    /// Whether every value is allowed, and every constraint holds.
+    pub fn feasible(&self, assignment: &Assignment) -> bool
+        requires { AreInHulls self.now.network.hulls assignment.now }
+        ensures { IsTrue result ↔ IsFeasible self.now assignment.now }
+    {
+        let _network = self.network.vars();
+        self.network.admits(assignment)
+    }
+
+    /// What is to be small: the value that the goal names, its negative where it is to be large, or 0.
     pub fn objective(&self, assignment: &Assignment) -> i64
-        requires { EachAllowed self.now.variables assignment.now }
+        requires { AreInHulls self.now.network.hulls assignment.now }
         ensures { result ≡ objective_of self.now.goal assignment.now }
     {
+        let _network = self.network.vars();
         match self.goal {
             Goal::Satisfy => 0,
             Goal::Minimize(var) => assignment.value(var),
+            Goal::Maximize(var) => self.negative(var, assignment),
         }
     }
 
-    /// Whether the first assignment is better than the second: its objective is smaller, or the same and its
-    /// values come first in lexicographic order.
+    /// The negative of the variable's value.
+    fn negative(&self, var: VarId, assignment: &Assignment) -> i64
+        requires known { var.0 < length self.now.variables }
+        requires inside { AreInHulls self.now.network.hulls assignment.now }
+        ensures { result ≡ neg_ℤ (value_at assignment.now var) }
+    {
+        let _network = self.network.vars();
+        let _hull = self.network.hull(var);
+        -assignment.value(var)
+    }
+
+    /// Whether the first assignment is better than the second: its objective is smaller, or the same and its free values come first in
+    /// lexicographic order.
     pub fn better(&self, first: &Assignment, second: &Assignment) -> bool
-        requires first { EachAllowed self.now.variables first.now }
-        requires second { EachAllowed self.now.variables second.now }
+        requires first { AreInHulls self.now.network.hulls first.now }
+        requires second { AreInHulls self.now.network.hulls second.now }
         ensures { IsTrue result ↔ IsBetter self.now first.now second.now }
     {
+        let _network = self.network.vars();
         self.objective(first)
             .cmp(&self.objective(second))
-            .then(first.as_slice().cmp(second.as_slice()))
+            .then(free_order(self.network.free(), first, second))
             .is_lt()
     }
+
+    /// A law, which a call makes known: the free values determine what completes them.
+    pub fn one_completion(&self)
+        ensures { HasOneCompletion self.now.network }
+    {
+        self.network.one_completion()
+    }
+
+    /// A law, which a call makes known: a feasible assignment is what completes its free values, and these lie in their domains.
+    pub fn feasible_is_completed(&self)
+        ensures { FeasibleIsCompleted self.now }
+    {
+        let _network = self.network.vars();
+        self.network.admitted_is_completed()
+    }
 }
 
-fn all_hold(constraints: &[AnyKind], assignment: &Assignment) -> bool
-    requires fits { All (IsFit (length assignment.now)) constraints.now }
-    requires values { AreModest assignment.now }
-    ensures { IsTrue result ↔ All (λ k. Holds k assignment.now) constraints.now }
+/// How the values of the variables compare, place by place.
+fn free_order(free: &[VarId], first: &Assignment, second: &Assignment) -> Ordering
+    requires first { AllBelow (length first.now) free.now }
+    requires second { AllBelow (length second.now) free.now }
+    ensures { result ≡ slice_cmp int_cmp (map (value_at first.now) free.now) (map (value_at second.now) free.now) }
 {
-    for constraint in constraints {
-        if !constraint.holds(assignment) {
-            return false;
+    for var in free {
+        let order = first.value(*var).cmp(&second.value(*var));
+        if order.is_ne() {
+            return order;
         }
     }
-    true
-}
-
-// The domain of each variable.
-pub(crate) fn all_domains(alloc: Global, variables: &[Variable]) -> Result<Vec<Domain>, NoMemory>
-    requires { All (λ v. IsFitDeclared v.declared) variables.now }
-    ensures { IfOk result (λ ds. ds.items ≡ map (λ v. values_of v.declared) variables.now) }
-{
-    let mut domains = Vec::new(alloc);
-    for variable in variables {
-        domains.push(domain_of(variable.declared))?;
-    }
-    Ok(domains)
-}
-
-// The values that a declaration allows.
-fn domain_of(declared: Declared) -> Domain
-    requires { IsFitDeclared declared }
-    ensures { result ≡ values_of declared }
-{
-    match declared {
-        Declared::Range { lo, hi } => range_domain(lo, hi),
-    }
-}
-
-// The integers from the one to the other, as a domain.
-fn range_domain(lo: i64, hi: i64) -> Domain
-    requires some { lo ≤ℤ hi }
-    requires low { IsModest lo }
-    requires high { IsModest hi }
-    requires few { count_of lo hi ≤ 4096 }
-    ensures { result ≡ range_of lo hi }
-{
-    match Domain::from_range(lo, hi) {
-        Ok(domain) => domain,
-        Err(_) => unreachable!(),
-    }
+    Ordering::Equal
 }

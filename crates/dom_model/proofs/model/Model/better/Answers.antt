@@ -1,28 +1,19 @@
--- The values of all variables are the assignment.
-use Rattle.std.proofs.Common.{refl, rules, FitsSigned}
-use Rattle.std.specs.Int.{w64}
-use Rattle.std.proofs.lemmas.Int.{to_z-of_z}
-use Rattle.dom_model.proofs.Allowed.{allowed_length}
-use Rattle.dom_model.proofs.Keys.{all_values, less_is}
+-- The free variables are some of the variables, and the keys compare as their parts.
+use Rattle.std.proofs.Common.{◌≡◌, subst, sym, length, arith, List}
+use Rattle.dom_core.specs.declared.var_id.VarId.{VarId}
+use Rattle.dom_network.proofs.FreeLaws.{free_below}
+use Rattle.dom_model.specs.Problem.{Problem}
+use Rattle.kind_law.specs.Laws.{AllBelow}
 use Rattle.dom_model.proofs.model.Model.better.Goals as goal
 
-pub returns : goal.returns
-returns c =
-    let first = all_values c.args.first.now _ (allowed_length c.args.self.now.variables c.args.first.now c.requires.first) in
-    let second = all_values c.args.second.now _ (allowed_length c.args.self.now.variables c.args.second.now c.requires.second) in
-    let small : FitsSigned w64 c.objective.result = search rules in
-    let small_too : FitsSigned w64 c.objective-2.result = search rules in
-    rw (first, second)
-    (less_is _ _
-    (rw (
-      c.is_lt.ensures,
-      c.then.ensures,
-      c.cmp.ensures,
-      c.cmp-2.ensures,
-      c.as_slice.ensures,
-      c.as_slice-2.ensures,
-      to_z-of_z w64 _ small,
-      to_z-of_z w64 _ small_too,
-      c.objective.ensures,
-      c.objective-2.ensures,
-    ) refl))
+pub free_order-requires-clause-first : goal.free_order-requires-clause-first
+free_order-requires-clause-first c =
+    let size = subst (λ (p : Problem). length c.args.first.now ≡ length p.network.hulls) (sym c.self.view_is) c.requires.first.whole in
+    subst (λ (vs : List VarId). AllBelow (length c.args.first.now) vs) (sym c.free.ensures)
+    (free_below c.self.inside.network.definers (length c.args.first.now) (omega (arith, size, c.vars-network.ensures.whole)))
+
+pub free_order-requires-clause-second : goal.free_order-requires-clause-second
+free_order-requires-clause-second c =
+    let size = subst (λ (p : Problem). length c.args.second.now ≡ length p.network.hulls) (sym c.self.view_is) c.requires.second.whole in
+    subst (λ (vs : List VarId). AllBelow (length c.args.second.now) vs) (sym c.free.ensures)
+    (free_below c.self.inside.network.definers (length c.args.second.now) (omega (arith, size, c.vars-network.ensures.whole)))

@@ -1,18 +1,12 @@
--- The constraints of a model are fit for allowed values, which are modest.
-use Rattle.std.proofs.Common.{subst, ap}
-use Rattle.dom_model.specs.Bounds.{IsBounded}
+-- The network admits what is feasible.
+use Rattle.std.proofs.Common.{◌≡◌, ◌↔◌, length, sym, ◌∙◌, subst, IsTrue}
+use Rattle.dom_model.specs.Least.{IsFeasible}
 use Rattle.dom_model.specs.Problem.{Problem}
-use Rattle.dom_model.proofs.Allowed.{allowed_length, allowed_modest}
+use Rattle.dom_model.proofs.FeasibleLaws.{told_feasible}
 use Rattle.dom_model.proofs.model.Model.feasible.Goals as goal
 
-pub all_hold-requires-clause-fits : goal.all_hold-requires-clause-fits
-all_hold-requires-clause-fits c =
-    let bounded : IsBounded c.args.self.now = subst (λ (p : Problem). IsBounded p) c.self.view_is c.self.invariant.bounded in
-    let whole = allowed_length c.args.self.now.variables c.args.assignment.now c.requires in
-    let same = ap (λ (p : Problem). p.constraints) c.self.view_is in
-    rw (whole, c.as_slice.ensures.value, same) bounded.constraints
-
-pub all_hold-requires-clause-values : goal.all_hold-requires-clause-values
-all_hold-requires-clause-values c =
-    let bounded : IsBounded c.args.self.now = subst (λ (p : Problem). IsBounded p) c.self.view_is c.self.invariant.bounded in
-    allowed_modest c.args.self.now.variables c.args.assignment.now bounded.declared c.requires
+pub returns : goal.returns
+returns c =
+    let size : length c.args.assignment.now ≡ length c.self.inside.variables.items =
+    subst (λ (p : Problem). length c.args.assignment.now ≡ length p.network.hulls) (sym c.self.view_is) c.requires.whole ∙ sym c.vars-network.ensures.whole ∙ c.self.invariant.whole in
+    subst (λ (p : Problem). IsTrue c.admits.result ↔ IsFeasible p c.args.assignment.now) c.self.view_is (told_feasible _ c.args.assignment.now c.admits.result c.self.invariant size c.admits.ensures)

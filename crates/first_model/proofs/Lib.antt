@@ -1,0 +1,4 @@
+pub mod Allowed
+pub mod Keys
+pub mod Order
+mod Products
