@@ -1,9 +1,12 @@
 //! The text of an answer, output by output.
-ghost use Rattle.std.specs.Prelude.{◌≡◌, ◌<◌, ◌++◌, length, vec_len, IfOk, OnOk};
-ghost use Rattle.dom_model.specs.Bounds.{IsFitOutput};
+ghost use Rattle.std.specs.Prelude.{◌≡◌, ◌++◌, length, IfOk, OnOk};
+ghost use Rattle.dom_model.specs.Draft.{IsFitOutput};
 ghost use Rattle.dom_report.specs.Text.{answer_text_of, end_of, line_of, scalar_text_of};
 
+use crate::array::write_array;
+use crate::value::write_value;
 use dom_core::{Assignment, NoMemory};
+use dom_definers::Form;
 use dom_model::{Model, Output};
 use std::alloc::Global;
 
@@ -20,54 +23,61 @@ pub fn answer_text(
 {
     let mut text = Vec::new(alloc);
     for output in model.outputs() {
-        add_line(alloc, model, assignment, *output, &mut text)?;
+        write_line(model, assignment, output, &mut text)?;
     }
-    add_end(done, &mut text)?;
+    write_end(done, &mut text)?;
     Ok(text)
 }
 
-// Adds what ends an answer.
-fn add_end(done: bool, text: &mut Vec<u8>) -> Result<(), NoMemory>
+/// Adds what ends an answer.
+fn write_end(done: bool, text: &mut Vec<u8>) -> Result<(), NoMemory>
     ensures { OnOk result (text.new.items ≡ text.old.items ++ end_of done) }
 {
     if done {
-        text.extend_from_slice(b"----------\n==========\n")?;
-        return Ok(());
+        text.extend_from_slice(b"----------\n==========\n")
+    } else {
+        text.extend_from_slice(b"----------\n")
     }
-    text.extend_from_slice(b"----------\n")?;
-    Ok(())
 }
 
-// Adds the line of one output.
-fn add_line(
-    alloc: Global,
+/// Adds the line of one output.
+fn write_line(
     model: &Model,
     assignment: &Assignment,
-    output: Output,
+    output: &Output,
     text: &mut Vec<u8>,
 ) -> Result<(), NoMemory>
     requires whole { length assignment.now ≡ length model.now.variables }
-    requires known { IsFitOutput (length model.now.variables) output }
-    ensures { OnOk result (text.new.items ≡ text.old.items ++ line_of model.now assignment.now output) }
+    requires known { IsFitOutput (length model.now.variables) output.now }
+    ensures { OnOk result (text.new.items ≡ text.old.items ++ line_of model.now assignment.now output.now) }
 {
     match output {
-        Output::Scalar(var) => add_scalar(
-            alloc,
-            model.name(var).as_bytes(),
-            assignment.value(var),
+        Output::Scalar(var) => {
+            let name = model.name(*var).as_bytes();
+            write_scalar(name, model.form(*var), assignment.value(*var), text)
+        }
+        Output::Array {
+            name,
+            form,
+            sets,
+            entries,
+        } => write_array(
+            assignment,
+            name.as_bytes(),
+            *form,
+            sets.as_slice(),
+            entries.as_slice(),
             text,
         ),
     }
 }
 
-// Adds a name and its value.
-fn add_scalar(alloc: Global, name: &[u8], value: i64, text: &mut Vec<u8>) -> Result<(), NoMemory>
-    ensures { OnOk result (text.new.items ≡ text.old.items ++ scalar_text_of name.now value) }
+/// Adds a name and its value.
+fn write_scalar(name: &[u8], form: Form, value: i64, text: &mut Vec<u8>) -> Result<(), NoMemory>
+    ensures { OnOk result (text.new.items ≡ text.old.items ++ scalar_text_of name.now form value) }
 {
-    let number = format!(in alloc; "{value}")?;
     text.extend_from_slice(name)?;
     text.extend_from_slice(b" = ")?;
-    text.extend_from_slice(number.as_bytes())?;
-    text.extend_from_slice(b";\n")?;
-    Ok(())
+    write_value(form, value, text)?;
+    text.extend_from_slice(b";\n")
 }

@@ -1,4 +1,5 @@
-mod Allowed
+mod Counts
+mod Order
+mod Places
 mod Progress
 mod Tuples
-mod Places

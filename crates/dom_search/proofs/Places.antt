@@ -1,39 +1,13 @@
 -- One domain after the other.
-use Rattle.std.proofs.Common.{◌≡◌, ℕ, zero, suc, ◌+◌, ◌*◌, ◌/◌, ◌%◌, ◌<◌, ◌≤◌, List, [], ◌∷◌, ◌++◌, length, map, take, drop, drop-cons, slice_index_or, refl, sym, ◌∙◌, ap, arith, pos, ℤ, add-one, set, append_assoc, Some}
-use Rattle.std.specs.List.{All}
-use Rattle.std.proofs.lemmas.List.Elements.{All-head, All-tail, All-drop}
-use Rattle.std.proofs.Math.Nat.{mul_assoc, mul-pos, mul-suc, mul-div_cancel_left, mod-lt}
+use Rattle.std.proofs.Common.{◌≡◌, ℕ, ◌+◌, ◌*◌, ◌/◌, ◌%◌, ◌<◌, ◌≤◌, List, [], ◌∷◌, ◌++◌, length, take, drop, drop-cons, slice_index_or, refl, sym, ◌∙◌, ap, arith, pos, ℤ, add-one, set, append_assoc, Some}
 use Rattle.std.specs.List.{slice_get}
+use Rattle.std.proofs.Math.Nat.{mul-div_cancel_left, mod-lt}
 use Rattle.std.proofs.Math.Seq.{take-suc-set}
 use Rattle.std.proofs.lemmas.Option.{get_or_from_slice_get, slice_get_within}
-use Rattle.std.proofs.lemmas.List.{drop-map, take_all, drop_all, append-nil}
-use Rattle.dom_core.proofs.RisesLaws.{count_some, range-length}
-use Rattle.dom_model.specs.declared.form.Declared.{Declared}
-use Rattle.dom_model.specs.declared.form.Declared.TheVariants.{Range}
-use Rattle.dom_model.specs.declared.variable.Variable.{Variable}
-use Rattle.dom_model.specs.Bounds.{IsBounded, IsFitDeclared}
-use Rattle.dom_model.specs.Least.{domains_of, tuple_count_of, width_of}
-use Rattle.dom_model.specs.Problem.{Problem}
-use Rattle.dom_model.specs.Variable.{values_of}
-use Rattle.dom_model.proofs.Keys.{length-first_variables}
+use Rattle.std.proofs.lemmas.List.{take_all, drop_all, append-nil}
+use Rattle.dom_network.specs.Free.{tuple_count_of}
 use Rattle.dom_search.specs.Tuples.{tuple_at}
-use Rattle.dom_search.proofs.Tuples.{positive_right, quotient_below}
-
-values_some : (d : Declared) → IsFitDeclared d → 0 < length (values_of d)
-values_some (Range lo hi) f = rw (range-length lo hi) (count_some lo hi f.0)
-
-count_positive : (vs : List Variable) → All (λ v. IsFitDeclared v.declared) vs → 0 < tuple_count_of (map (λ v. values_of v.declared) vs)
-count_positive [] f = omega arith
-count_positive (v ∷ vs) f =
-    let here = values_some v.declared (All-head (λ (y : Variable). IsFitDeclared y.declared) v vs f) in
-    let more = count_positive vs (All-tail (λ (y : Variable). IsFitDeclared y.declared) v vs f) in
-    mul-pos here more
-
--- there are tuples of the domains from a place on
-pub rest_positive : (p : Problem) (i : ℕ) → IsBounded p → 0 < tuple_count_of (drop i (domains_of p))
-rest_positive p i bounded =
-    let f : Variable → List ℤ = λ v. values_of v.declared in
-    rw (drop-map f i p.variables) (count_positive (drop i p.variables) (All-drop (λ (v : Variable). IsFitDeclared v.declared) i p.variables bounded.declared))
+use Rattle.dom_search.proofs.Tuples.{positive_right, quotient_below, tuple-length}
 
 -- what stands from a place on
 pub drop_at : (ds : List (List ℤ)) (i : ℕ) (d : List ℤ) → slice_get ds i ≡ Some d → drop i ds ≡ d ∷ drop (i + 1) ds
@@ -44,25 +18,6 @@ drop_at ds i d e =
 -- the number of tuples from a place on is that of the domain there, times that of the rest
 pub first_of_rest : (ds : List (List ℤ)) (i : ℕ) (d : List ℤ) → slice_get ds i ≡ Some d → tuple_count_of (drop i ds) ≡ length d * tuple_count_of (drop (i + 1) ds)
 first_of_rest ds i d e = rw (drop_at ds i d e) refl
-
--- so many tuples, times those of one domain more
-pub count_more : (ds : List (List ℤ)) (i count total : ℕ) (d : List ℤ) → slice_get ds i ≡ Some d
-    → count * tuple_count_of (drop i ds) ≡ total → (count * length d) * tuple_count_of (drop (i + 1) ds) ≡ total
-count_more ds i count total d e h =
-    mul_assoc count (length d) (tuple_count_of (drop (i + 1) ds)) ∙ ap (λ n. count * n) (sym (first_of_rest ds i d e)) ∙ h
-
--- a product with a positive number is no less
-pub product_no_less : (a b total limit : ℕ) → 0 < b → a * b ≡ total → total ≤ limit → a ≤ limit
-product_no_less a (suc b) total limit positive h k = let e : a * suc b ≡ a * b + a = mul-suc a b in omega (arith, h, k, e)
-product_no_less a zero total limit positive h k = absurd (omega arith)
-
--- the width is the number of tuples times one more than that of the variables
-pub width-is : (p : Problem) → width_of p ≡ (length p.variables + 1) * tuple_count_of (domains_of p)
-width-is p = ap (λ n. (n + 1) * tuple_count_of (domains_of p)) (length-first_variables (length p.variables))
-
-pub count_within_width : (p : Problem) → tuple_count_of (domains_of p) ≤ width_of p
-count_within_width p =
-    rw (width-is p) (let e : (length p.variables + 1) * tuple_count_of (domains_of p) ≡ length p.variables * tuple_count_of (domains_of p) + tuple_count_of (domains_of p) = omega arith in omega (arith, e))
 
 -- a tuple whose first values are written, with what is left of its number
 pub record IsWritten (ds : List (List ℤ)) (number : ℕ) (tuple : List ℤ) (i block rest : ℕ) : Type 0 where
@@ -109,3 +64,27 @@ all_written ds number tuple i block rest w k h =
     let end : drop i ds ≡ [] = drop_all i ds k in
     let whole = rw (take_all i tuple h, end, append-nil) at w.done in
     whole
+
+-- what is written over a whole list is what stands there
+written_back : (xs ys : List ℤ) (n : ℕ) → length xs ≡ n → length ys ≡ n → take n (xs ++ drop (length xs) ys) ≡ xs
+written_back xs ys n e f =
+    let end : drop (length xs) ys ≡ [] = drop_all (length xs) ys (omega (arith, e, f)) in
+    rw (end, append-nil) (take_all n xs (omega (arith, e)))
+
+-- so it is with a tuple that is written over another one
+pub tuple_written : (ds : List (List ℤ)) (number : ℕ) (xs ys : List ℤ) (n : ℕ) → xs ≡ tuple_at ds number → length ys ≡ length ds → length ys ≡ n
+    → take n (xs ++ drop (length xs) ys) ≡ tuple_at ds number
+tuple_written ds number xs ys n is e f =
+    let as_long : length xs ≡ length ds = ap length is ∙ tuple-length ds number in
+    written_back xs ys n (as_long ∙ sym e ∙ f) f ∙ is
+
+-- there are tuples of the domains behind a place that is to be written
+pub rest_positive : (ds : List (List ℤ)) (i block rest : ℕ) (d : List ℤ) → slice_get ds i ≡ Some d
+    → block ≡ tuple_count_of (drop i ds) → rest < block → 0 < tuple_count_of (drop (i + 1) ds)
+rest_positive ds i block rest d e is below =
+    positive_right (length d) (tuple_count_of (drop (i + 1) ds)) rest (rw (← first_of_rest ds i d e, ← is) below)
+
+-- so the block of the next place is some
+pub next_positive : (ds : List (List ℤ)) (i block rest : ℕ) (d : List ℤ) → slice_get ds i ≡ Some d → 0 < length d
+    → block ≡ tuple_count_of (drop i ds) → rest < block → 0 < block / length d
+next_positive ds i block rest d e some is below = rw (next_block ds i block d e some is) (rest_positive ds i block rest d e is below)

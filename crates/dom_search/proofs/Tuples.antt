@@ -1,11 +1,11 @@
 -- Each number below the count gives a tuple, and each tuple has such a number.
-use Rattle.std.proofs.Common.{◌≡◌, ℕ, zero, suc, inl, inr, ◌+◌, ◌*◌, ◌/◌, ◌%◌, ◌<◌, ◌≤◌, true, List, [], ◌∷◌, length, slice_index_or, refl, sym, arith, pos, ℤ, mul-zero}
+use Rattle.std.proofs.Common.{◌≡◌, ℕ, zero, suc, inl, inr, ◌+◌, ◌*◌, ◌/◌, ◌%◌, ◌<◌, ◌≤◌, true, List, [], ◌∷◌, length, slice_index_or, refl, sym, ap, arith, pos, ℤ, mul-zero}
 use Rattle.std.proofs.lemmas.Nat.{div-mul-add, mod-mul-add}
 use Rattle.std.proofs.Math.Nat.{mod-lt, mul-le-mul_right, div-lt_iff_lt-mul}
 use Rattle.dom_core.specs.Rises.{is_among}
 use Rattle.dom_core.proofs.RisesLaws.{among_cases, among_read}
-use Rattle.dom_model.specs.Least.{tuple_count_of}
-use Rattle.dom_search.specs.Tuples.{IsTuple, tuple_at}
+use Rattle.dom_network.specs.Free.{IsTuple, tuple_count_of}
+use Rattle.dom_search.specs.Tuples.{tuple_at}
 
 below_product : (a b i m : ℕ) → i < a → m < b → i * b + m < a * b
 below_product a b i m h k =
@@ -52,3 +52,7 @@ number_of (d ∷ ds) (x ∷ xs) t =
       below_product (length d) (tuple_count_of ds) i.0 r.0 i.1 r.1,
       rw (div-mul-add i.0 (tuple_count_of ds) r.0 r.1, mod-mul-add i.0 (tuple_count_of ds) r.0 r.1, i.2, r.2) refl,
     )
+
+pub tuple-length : (ds : List (List ℤ)) (n : ℕ) → length (tuple_at ds n) ≡ length ds
+tuple-length [] n = refl
+tuple-length (d ∷ ds) n = ap suc (tuple-length ds (n % tuple_count_of ds))

@@ -1,14 +1,19 @@
 -- How far a search has come.
 use Rattle.std.specs.Prelude.{◌≡◌, ℕ, ◌<◌, ◌⊎◌, Bool, true, false, List, ℤ}
-use Rattle.dom_model.specs.Least.{IsFeasible, IsBetter, domains_of}
+use Rattle.dom_model.specs.Least.{IsFeasible, IsBetter}
 use Rattle.dom_model.specs.Problem.{Problem}
+use Rattle.dom_network.specs.Completion.{IsCompletion}
 use Rattle.dom_search.specs.Tuples.{tuple_at}
 
--- the tuple is one of the first so many
-abbrev pub IsSeen : Problem → ℕ → List ℤ → Type 0
-IsSeen p n b = (k : ℕ) × (k < n) × (tuple_at (domains_of p) k ≡ b)
+-- the assignment completes these values of the free variables
+abbrev pub Completes : Problem → List ℤ → List ℤ → Type 0
+Completes p values a = IsCompletion p.network.constraints p.network.definers values a
 
--- the best of the first so many tuples, where any of them is feasible
+-- the assignment completes one of the first so many tuples
+abbrev pub IsSeen : Problem → ℕ → List ℤ → Type 0
+IsSeen p n b = (k : ℕ) × (k < n) × Completes p (tuple_at p.network.domains k) b
+
+-- the best that completes one of the first so many tuples, where any of them is feasible
 pub record IsBestSoFar (p : Problem) (n : ℕ) (found : Bool) (best : List ℤ) : Type 0 where
   pub feasible : found ≡ true → IsFeasible p best
   pub least : found ≡ true → (b : List ℤ) → IsSeen p n b → IsFeasible p b → IsBetter p b best → ⊥

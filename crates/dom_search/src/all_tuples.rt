@@ -1,7 +1,7 @@
 //! The search itself.
-ghost use Rattle.std.specs.Prelude.{◌≡◌, ◌≤◌, ◌<◌, length, IfOk, IsTrue};
+ghost use Rattle.std.specs.Prelude.{◌≡◌, ◌≤◌, length, replicate, pos, IfOk, IsTrue};
 ghost use Rattle.dom_model.specs.Least.{width_of};
-ghost use Rattle.dom_model.specs.Variable.{EachAllowed};
+ghost use Rattle.dom_network.specs.Completion.{AreInHulls};
 ghost use Rattle.dom_search.specs.Outcome.{IsOutcome};
 ghost use Rattle.dom_search.specs.Progress.{Improves};
 
@@ -12,18 +12,22 @@ use dom_core::{Assignment, NoMemory};
 use dom_model::Model;
 use std::alloc::Global;
 
-/// The least feasible assignment of a narrow model, or that there is none. Each tuple of values counts as
-/// one node.
+/// The least feasible assignment of a narrow model, or that there is none. Each tuple of values of the free
+/// variables counts as one node.
 pub fn search(alloc: Global, model: &Model) -> Result<Outcome, NoMemory>
     requires { width_of model.now ≤ 1000000 }
     ensures { IfOk result (IsOutcome model.now) }
 {
+    model.one_completion();
+    model.feasible_is_completed();
     let count = tuple_count(model);
-    let mut candidate = model.blank(alloc)?;
-    let mut best = model.blank(alloc)?;
+    let mut values = zeros(alloc, model.free().len())?;
+    let mut candidate = Assignment::zeros(alloc, model.vars())?;
+    let mut best = Assignment::zeros(alloc, model.vars())?;
     let mut found = false;
     for number in 0..count {
-        set_tuple(model, count, number, &mut candidate);
+        set_tuple(model, count, number, &mut values);
+        model.complete(&values, &mut candidate);
         found = improve(model, &candidate, found, &mut best);
     }
     if found {
@@ -33,13 +37,20 @@ pub fn search(alloc: Global, model: &Model) -> Result<Outcome, NoMemory>
     }
 }
 
-// Puts the candidate into the place of the best assignment found so far, where it is feasible and better.
+fn zeros(alloc: Global, count: usize) -> Result<Vec<i64>, NoMemory>
+    ensures { IfOk result (λ values. values.items ≡ replicate count (pos 0)) }
+{
+    Ok(vec![in alloc; 0; count]?)
+}
+
+/// Puts the candidate into the place of the best assignment found so far, where it is feasible and better.
 fn improve(model: &Model, candidate: &Assignment, found: bool, best: &mut Assignment) -> bool
-    requires candidate { EachAllowed model.now.variables candidate.now }
-    requires best { IsTrue found → EachAllowed model.now.variables best.old }
-    requires whole { length best.old ≡ length model.now.variables }
+    requires candidate { AreInHulls model.now.network.hulls candidate.now }
+    requires best { IsTrue found → AreInHulls model.now.network.hulls best.old }
+    requires whole { length best.old ≡ length candidate.now }
     ensures best { Improves model.now candidate.now found best.old result best.new }
-    ensures whole { length best.new ≡ length model.now.variables }
+    ensures hulls { IsTrue result → AreInHulls model.now.network.hulls best.new }
+    ensures whole { length best.new ≡ length best.old }
 {
     if !model.feasible(candidate) {
         return found;

@@ -1,47 +1,37 @@
-//! How many tuples of values a model has.
-ghost use Rattle.std.specs.Prelude.{◌≡◌, ◌≤◌, ◌<◌, ◌↔◌, ◌*◌, length, drop, IsTrue, IsSome, IfSome};
-ghost use Rattle.dom_model.specs.Least.{domains_of, tuple_count_of, width_of};
+//! How many tuples of values the free variables of a model have.
+ghost use Rattle.std.specs.Prelude.{◌≡◌, ◌≤◌, ◌↔◌, min, IsTrue};
+ghost use Rattle.dom_model.specs.Least.{width_of};
+ghost use Rattle.dom_network.specs.Free.{tuple_count_of};
 
-use dom_core::VarId;
 use dom_model::Model;
 
 /// The greatest width of a model whose tuples are tried.
 const WIDTH_LIMIT: u64 = 1_000_000;
 
-/// Whether the width of the model, one more than its free variables times its tuples of values, is at most
+/// Whether the width of the model, one more than its free variables times their tuples of values, is at most
 /// a million.
 pub fn is_narrow(model: &Model) -> bool
     ensures { IsTrue result ↔ (width_of model.now ≤ 1000000) }
 {
-    match count_to_limit(model) {
-        Some(count) => (model.vars() as u64 + 1) * count <= WIDTH_LIMIT,
-        None => false,
-    }
+    (model.free().len() as u64 + 1) * capped_count(model) <= WIDTH_LIMIT
 }
 
-// The number of tuples of a narrow model.
+/// The number of tuples of a narrow model.
 pub(crate) fn tuple_count(model: &Model) -> u64
     requires { width_of model.now ≤ 1000000 }
-    ensures { result ≡ tuple_count_of (domains_of model.now) }
+    ensures { result ≡ tuple_count_of model.now.network.domains }
 {
-    match count_to_limit(model) {
-        Some(count) => count,
-        None => unreachable!(),
-    }
+    capped_count(model)
 }
 
-// The number of tuples, where it is within the limit.
-fn count_to_limit(model: &Model) -> Option<u64>
-    ensures some { IsSome result ↔ (tuple_count_of (domains_of model.now) ≤ 1000000) }
-    ensures value { IfSome result (λ n. n ≡ tuple_count_of (domains_of model.now)) }
+/// The number of tuples, or one more than the limit where there are more.
+fn capped_count(model: &Model) -> u64
+    ensures { result ≡ min (tuple_count_of model.now.network.domains) 1000001 }
 {
     let mut count = 1;
-    for index in 0..model.vars() {
-        let size = model.domain(VarId(index as u32)).size() as u64;
-        count *= size;
-        if count > WIDTH_LIMIT {
-            return None;
-        }
+    for place in 0..model.free().len() {
+        let size = model.domain_at(place).size() as u64;
+        count = (count * size).min(WIDTH_LIMIT + 1);
     }
-    Some(count)
+    count
 }

@@ -1,7 +1,7 @@
 -- The number of tuples so far times that of the rest is that of all.
 use Rattle.std.proofs.Common.{◌≡◌, ◌≤◌, ◌*◌, drop}
-use Rattle.dom_model.specs.Least.{domains_of, tuple_count_of}
-use Rattle.dom_search.proofs.count.count_to_limit.Given as goal
+use Rattle.first_model.specs.Least.{domains_of, tuple_count_of}
+use Rattle.first_search.proofs.count.count_to_limit.Given as goal
 
 abbrev pub invariant-loop-index : goal.invariant-loop-index
 invariant-loop-index l = record {

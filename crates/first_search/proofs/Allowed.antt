@@ -2,11 +2,11 @@
 use Rattle.std.proofs.Common.{◌≡◌, true, List, [], ◌∷◌, map, sym, ◌∙◌, ℤ}
 use Rattle.dom_core.specs.Rises.{is_among}
 use Rattle.dom_core.proofs.RisesLaws.{range-among, both_le, le_from_first, le_from_second}
-use Rattle.dom_model.specs.declared.form.Declared.{Declared}
-use Rattle.dom_model.specs.declared.form.Declared.TheVariants.{Range}
-use Rattle.dom_model.specs.declared.variable.Variable.{Variable}
-use Rattle.dom_model.specs.Variable.{Allows, EachAllowed, values_of}
-use Rattle.dom_search.specs.Tuples.{IsTuple}
+use Rattle.first_model.specs.declared.form.Declared.{Declared}
+use Rattle.first_model.specs.declared.form.Declared.TheVariants.{Range}
+use Rattle.first_model.specs.declared.variable.Variable.{Variable}
+use Rattle.first_model.specs.Variable.{Allows, EachAllowed, values_of}
+use Rattle.first_search.specs.Tuples.{IsTuple}
 
 allows_among : (d : Declared) (v : ℤ) → is_among v (values_of d) ≡ true → Allows d v
 allows_among (Range lo hi) v h =

@@ -1,8 +1,8 @@
 -- One domain more keeps the product, and a product above the limit only grows.
 use Rattle.std.proofs.Common.{◌≡◌, ◌≤◌, ◌*◌, ◌+◌, drop, arith}
-use Rattle.dom_model.specs.Least.{domains_of, tuple_count_of}
-use Rattle.dom_search.proofs.Places.{count_more, rest_positive, product_no_less}
-use Rattle.dom_search.proofs.count.count_to_limit.Goals as goal
+use Rattle.first_model.specs.Least.{domains_of, tuple_count_of}
+use Rattle.first_search.proofs.Places.{count_more, rest_positive, product_no_less}
+use Rattle.first_search.proofs.count.count_to_limit.Goals as goal
 
 counted : (c : goal.Then-count-gt-WIDTH_LIMIT)
     → (c.loop-index.count * c.size-size.result) * tuple_count_of (drop (c.loop-index.index + 1) (domains_of c.args.model.now))

@@ -1,9 +1,9 @@
 -- The width is the product that is compared.
 use Rattle.std.proofs.Common.{◌≡◌, ◌*◌, ◌+◌, arith, sym}
 use Rattle.std.proofs.lemmas.Bool.Decides.{nat_tests}
-use Rattle.dom_model.specs.Least.{width_of}
-use Rattle.dom_search.proofs.Places.{width-is}
-use Rattle.dom_search.proofs.count.is_narrow.Goals as goal
+use Rattle.first_model.specs.Least.{width_of}
+use Rattle.first_search.proofs.Places.{width-is}
+use Rattle.first_search.proofs.count.is_narrow.Goals as goal
 
 pub returns-in-Some : goal.returns-in-Some
 returns-in-Some c =

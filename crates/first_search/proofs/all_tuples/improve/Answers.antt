@@ -1,7 +1,7 @@
 -- A candidate has a value for each variable.
 use Rattle.std.proofs.Common.{◌∙◌, sym}
-use Rattle.dom_model.proofs.Allowed.{allowed_length}
-use Rattle.dom_search.proofs.all_tuples.improve.Goals as goal
+use Rattle.first_model.proofs.Allowed.{allowed_length}
+use Rattle.first_search.proofs.all_tuples.improve.Goals as goal
 
 pub copy_from-requires : goal.copy_from-requires
 copy_from-requires c =

@@ -1,0 +1,4 @@
+mod Allowed
+mod Progress
+mod Tuples
+mod Places
