@@ -1,0 +1,4 @@
+mod InStep
+mod Numbered
+mod Single
+mod Told

@@ -1,0 +1,3 @@
+mod InStep
+mod Single
+mod Told
