@@ -1,0 +1,6 @@
+mod Chains
+mod Lists
+mod Scalars
+mod Shapes
+mod Together
+mod Types
