@@ -2,8 +2,8 @@
 use Rattle.std.specs.Prelude.{◌≡◌, ◌⊎◌, ℕ, List, [], ◌∷◌, ◌++◌, Option, codes, decimal}
 use Rattle.dom_edge.specs.Causes.{CountRose}
 use Rattle.dom_edge.specs.Text.{Gains, GainsPrefix}
-use Rattle.fzn_limits.specs.declared.counted.Counted.{Counted}
-use Rattle.fzn_limits.specs.declared.counted.Counted.TheVariants.{Variables, Constraints, ArrayEntries, ArgumentEntries, Free}
+use Rattle.dom_limits.specs.declared.counted.Counted.{Counted}
+use Rattle.dom_limits.specs.declared.counted.Counted.TheVariants.{Variables, Constraints, ArrayEntries, ArgumentEntries, Free}
 use Rattle.fzn_lex.specs.declared.errors.LexError.{LexError}
 use Rattle.fzn_lex.specs.declared.errors.LexError.TheVariants as lexing
 use Rattle.fzn_syntax.specs.declared.error.SyntaxError.{SyntaxError}

@@ -1,6 +1,6 @@
 -- Steps behind each other.
 use Rattle.std.proofs.Common.{◌≡◌, ◌⊎◌, inl, inr, List, Option, Some, None, MatchOption, Result, Ok, Err, refl, sym, ap, subst}
-use Rattle.dom_model.specs.Problem.{Problem}
+use Rattle.first_model.specs.Problem.{Problem}
 use Rattle.fzn_check.specs.DeclarationFaults as declared
 use Rattle.fzn_check.specs.declared.fault.Fault.{Fault}
 use Rattle.fzn_check.specs.ConstraintFaults as posted

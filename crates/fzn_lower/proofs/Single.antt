@@ -1,8 +1,8 @@
 -- Each step finds one thing at most, and so items have one answer.
 use Rattle.std.proofs.Common.{◌≡◌, ◌⊎◌, ℕ, zero, suc, ◌<◌, ◌≤◌, slice_get, List, Option, Some, None, Result, Ok, Err, inl, inr, refl, sym, ◌∙◌, ap, subst, arith}
-use Rattle.dom_model.specs.Problem.{Problem}
-use Rattle.fzn_limits.specs.declared.counted.Counted.{Counted}
-use Rattle.fzn_limits.specs.declared.counted.Counted.TheVariants.{Variables, Constraints, ArrayEntries, ArgumentEntries, Free}
+use Rattle.first_model.specs.Problem.{Problem}
+use Rattle.dom_limits.specs.declared.counted.Counted.{Counted}
+use Rattle.dom_limits.specs.declared.counted.Counted.TheVariants.{Variables, Constraints, ArrayEntries, ArgumentEntries, Free}
 use Rattle.fzn_limits.specs.Entries.{entries_of}
 use Rattle.fzn_limits.specs.Sizes.{IsCounted, IsFirstTooMany}
 use Rattle.fzn_limits.specs.Unlisted.{AreKnown, IsFirstUnknown}

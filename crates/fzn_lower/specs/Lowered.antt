@@ -1,6 +1,6 @@
 -- The model of items, or their first fault.
 use Rattle.std.specs.Prelude.{◌≡◌, ℕ, List, Some, None, Result, Ok, Err}
-use Rattle.dom_model.specs.Problem.{Problem}
+use Rattle.first_model.specs.Problem.{Problem}
 use Rattle.fzn_lower.specs.Finding.{Step}
 use Rattle.fzn_lower.specs.Steps.{FindsFault}
 use Rattle.fzn_lower.specs.declared.error.ModelError.{ModelError}

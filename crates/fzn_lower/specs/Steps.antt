@@ -1,6 +1,6 @@
 -- What each step looks for, in the order of the steps.
 use Rattle.std.specs.Prelude.{◌≡◌, ℕ, ◌<◌, ◌≤◌, List, Option, Some, None, Result, Ok, Err}
-use Rattle.fzn_limits.specs.declared.counted.Counted.TheVariants.{Variables, Constraints, ArrayEntries, ArgumentEntries, Free}
+use Rattle.dom_limits.specs.declared.counted.Counted.TheVariants.{Variables, Constraints, ArrayEntries, ArgumentEntries, Free}
 use Rattle.fzn_limits.specs.Entries.{entries_of, most_entries}
 use Rattle.fzn_limits.specs.Sizes.{IsCounted, IsFirstTooMany}
 use Rattle.fzn_limits.specs.Unlisted.{AreKnown, IsFirstUnknown}

@@ -1,5 +1,5 @@
 //! The first fault of items.
-use fzn_limits::Counted;
+use dom_limits::Counted;
 use fzn_model::ResolveError;
 use fzn_symbols::NameError;
 use std::alloc::{AllocError, AllocFailed};

@@ -6,7 +6,7 @@ ghost use Rattle.fzn_lower.specs.Steps.{FindsSize, FindsName, FindsDeclaration, 
 
 use crate::error::ModelError;
 use crate::steps::{check_declarations, check_names, check_sizes, check_valued};
-use dom_model::Model;
+use first_model::Model;
 use fzn_check::{constraints_have_one_first_fault, declarations_have_one_first_fault};
 use fzn_model::{ResolveError, model_of};
 use fzn_symbols::{NameError, Scope, items_have_one_scope, scope_of};

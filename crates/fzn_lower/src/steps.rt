@@ -5,8 +5,9 @@ ghost use Rattle.fzn_lower.specs.Finding.{Finds, ◌⟫◌};
 ghost use Rattle.fzn_lower.specs.Steps.{FindsSize, FindsName, FindsUnknown, FindsDeclaration, FindsConstraint, FindsSolve, FindsEntries, FindsConstraintOn};
 
 use crate::error::ModelError;
+use dom_limits::Counted;
 use fzn_check::{Fault, first_constraint_fault, first_declaration_fault, solve_fault};
-use fzn_limits::{Counted, argument_entries, count_items, first_unknown_constraint};
+use fzn_limits::{argument_entries, count_items, first_unknown_constraint};
 use fzn_symbols::Scope;
 use fzn_syntax::Items;
 use fzn_values::Constants;

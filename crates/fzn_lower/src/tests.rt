@@ -1,6 +1,6 @@
 //! Texts with their models and their first faults.
 use crate::{ModelError, items_have_one_answer, lower};
-use dom_model::Model;
+use first_model::Model;
 use fzn_lex::lex;
 use fzn_syntax::parse;
 use std::test::Fail;

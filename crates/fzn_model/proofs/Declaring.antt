@@ -5,11 +5,11 @@ use Rattle.std.proofs.Math.Seq.{take-suc}
 use Rattle.std.proofs.lemmas.Grind.{flat_map-append}
 use Rattle.std.proofs.lemmas.List.{append_assoc, append-nil}
 use Rattle.std.proofs.lemmas.List.Elements.{All-nil, All-cons, All-head, All-tail, All-push}
-use Rattle.dom_model.specs.Bounds.{IsFitDeclared, IsFitOutput}
-use Rattle.dom_model.specs.Problem.{Problem}
-use Rattle.dom_model.specs.declared.goal.Goal.TheVariants.{Satisfy}
-use Rattle.dom_model.specs.declared.output.Output.{Output}
-use Rattle.dom_model.specs.declared.variable.Variable as model
+use Rattle.first_model.specs.Bounds.{IsFitDeclared, IsFitOutput}
+use Rattle.first_model.specs.Problem.{Problem}
+use Rattle.first_model.specs.declared.goal.Goal.TheVariants.{Satisfy}
+use Rattle.first_model.specs.declared.output.Output.{Output}
+use Rattle.first_model.specs.declared.variable.Variable as model
 use Rattle.fzn_model.specs.Declarations.{IsBuilt, IsBuiltVariable, variable_of, variables_by, variables_of, is_marked, mark_of, marks_by, marks_from, number_at}
 use Rattle.fzn_model.specs.Declaring.{AreBuilt, declared_problem, with_declaration, IsDeclared, IsDeclaredNext}
 use Rattle.fzn_model.specs.declared.error.ResolveError.{ResolveError}

@@ -3,12 +3,12 @@ use Rattle.std.proofs.Common.{◌≡◌, ℕ, zero, suc, ◌+◌, ◌<◌, List,
 use Rattle.std.proofs.Math.Seq.{take-suc}
 use Rattle.std.proofs.lemmas.List.Elements.{All-nil, All-cons}
 use Rattle.dom_core.specs.declared.var_id.VarId.{VarId}
-use Rattle.dom_model.specs.Bounds.{IsBelow, IsFit, IsFitGoal}
-use Rattle.dom_model.specs.Problem.{Problem}
-use Rattle.dom_model.specs.declared.goal.Goal as model
-use Rattle.dom_model.specs.declared.goal.Goal.TheVariants as asked
-use Rattle.dom_model.specs.declared.kind.AnyKind.{AnyKind}
-use Rattle.dom_model.specs.declared.kind.AnyKind.TheVariants.{LinLe}
+use Rattle.first_model.specs.Bounds.{IsBelow, IsFit, IsFitGoal}
+use Rattle.first_model.specs.Problem.{Problem}
+use Rattle.first_model.specs.declared.goal.Goal as model
+use Rattle.first_model.specs.declared.goal.Goal.TheVariants as asked
+use Rattle.first_model.specs.declared.kind.AnyKind.{AnyKind}
+use Rattle.first_model.specs.declared.kind.AnyKind.TheVariants.{LinLe}
 use Rattle.fzn_model.proofs.Declaring.{number_below}
 use Rattle.fzn_model.specs.Answers.{Answers}
 use Rattle.fzn_model.specs.Declarations.{variables_of}

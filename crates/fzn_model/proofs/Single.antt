@@ -1,10 +1,10 @@
 -- What stands for one thing at most.
 use Rattle.std.proofs.Common.{◌≡◌, ℕ, List, [], ◌∷◌, Some, slice_get, refl, sym, ◌∙◌, ap, subst, ℤ, codes}
 use Rattle.dom_core.specs.declared.var_id.VarId.{VarId}
-use Rattle.dom_model.specs.declared.goal.Goal as model
-use Rattle.dom_model.specs.declared.goal.Goal.TheVariants as asked
-use Rattle.dom_model.specs.declared.kind.AnyKind.{AnyKind}
-use Rattle.dom_model.specs.declared.kind.AnyKind.TheVariants.{LinLe}
+use Rattle.first_model.specs.declared.goal.Goal as model
+use Rattle.first_model.specs.declared.goal.Goal.TheVariants as asked
+use Rattle.first_model.specs.declared.kind.AnyKind.{AnyKind}
+use Rattle.first_model.specs.declared.kind.AnyKind.TheVariants.{LinLe}
 use Rattle.fzn_symbols.proofs.Places.{named_at}
 use Rattle.fzn_model.specs.Declarations.{number_at}
 use Rattle.fzn_model.specs.Numbers.{IsNumbered}

@@ -1,10 +1,10 @@
 -- What terms answer.
 use Rattle.std.proofs.Common.{◌≡◌, ℕ, ◌≤◌, ◌<◌, arith, get_or, List, [], ◌∷◌, length, Option, None, Some, MatchOption, Result, Ok, Err, refl, sym, ◌∙◌, ap, subst, ℤ, codes}
 use Rattle.dom_core.specs.declared.var_id.VarId.{VarId}
-use Rattle.dom_model.specs.declared.goal.Goal as model
-use Rattle.dom_model.specs.declared.goal.Goal.TheVariants as asked
-use Rattle.dom_model.specs.declared.kind.AnyKind.{AnyKind}
-use Rattle.dom_model.specs.declared.kind.AnyKind.TheVariants.{LinLe}
+use Rattle.first_model.specs.declared.goal.Goal as model
+use Rattle.first_model.specs.declared.goal.Goal.TheVariants as asked
+use Rattle.first_model.specs.declared.kind.AnyKind.{AnyKind}
+use Rattle.first_model.specs.declared.kind.AnyKind.TheVariants.{LinLe}
 use Rattle.fzn_model.proofs.Single.{one_ints_of, one_vars_of}
 use Rattle.fzn_model.specs.Answers.{Answers}
 use Rattle.fzn_model.specs.Numbers.{IsNumbered}

@@ -1,11 +1,11 @@
 -- Whole models.
 use Rattle.std.proofs.Common.{◌≡◌, ℕ, ◌+◌, ◌≤◌, List, [], length, refl, sym, ◌∙◌, ap, subst, arith, All, Ok, Err}
-use Rattle.dom_model.specs.Bounds.{IsBounded, IsFitDeclared, IsFitGoal, IsFitOutput, IsFit}
-use Rattle.dom_model.specs.Problem.{Problem}
-use Rattle.dom_model.specs.declared.goal.Goal.{Goal}
-use Rattle.dom_model.specs.declared.kind.AnyKind.{AnyKind}
-use Rattle.dom_model.specs.declared.output.Output.{Output}
-use Rattle.dom_model.specs.declared.variable.Variable.{Variable}
+use Rattle.first_model.specs.Bounds.{IsBounded, IsFitDeclared, IsFitGoal, IsFitOutput, IsFit}
+use Rattle.first_model.specs.Problem.{Problem}
+use Rattle.first_model.specs.declared.goal.Goal.{Goal}
+use Rattle.first_model.specs.declared.kind.AnyKind.{AnyKind}
+use Rattle.first_model.specs.declared.output.Output.{Output}
+use Rattle.first_model.specs.declared.variable.Variable.{Variable}
 use Rattle.fzn_model.proofs.Declaring.{fit_variables, fit_marks}
 use Rattle.fzn_model.proofs.Posted.{posted_fit, asked_fit}
 use Rattle.fzn_model.proofs.Single.{one_asked, all_posted}

@@ -3,13 +3,13 @@ use Rattle.std.specs.Prelude.{◌≡◌, ℕ, ◌+◌, Bool, true, false, ◌&&�
 use Rattle.std.specs.List.{flat_map, list_any}
 use Rattle.std.specs.Str.{bytes_eq}
 use Rattle.dom_core.specs.declared.var_id.VarId.{VarId}
-use Rattle.dom_model.specs.Bounds.{IsFitDeclared}
-use Rattle.dom_model.specs.declared.form.Declared.{Declared}
-use Rattle.dom_model.specs.declared.form.Declared.TheVariants as declared
-use Rattle.dom_model.specs.declared.form.Form.TheVariants as forms
-use Rattle.dom_model.specs.declared.output.Output.{Output}
-use Rattle.dom_model.specs.declared.output.Output.TheVariants.{Scalar}
-use Rattle.dom_model.specs.declared.variable.Variable as model
+use Rattle.first_model.specs.Bounds.{IsFitDeclared}
+use Rattle.first_model.specs.declared.form.Declared.{Declared}
+use Rattle.first_model.specs.declared.form.Declared.TheVariants as declared
+use Rattle.first_model.specs.declared.form.Form.TheVariants as forms
+use Rattle.first_model.specs.declared.output.Output.{Output}
+use Rattle.first_model.specs.declared.output.Output.TheVariants.{Scalar}
+use Rattle.first_model.specs.declared.variable.Variable as model
 use Rattle.fzn_symbols.specs.Bases.{is_integer}
 use Rattle.fzn_syntax.specs.declared.annotation.Annotation.{Annotation}
 use Rattle.fzn_syntax.specs.declared.declaration.Declaration.{Declaration}

@@ -1,8 +1,8 @@
 -- What declarations make of a model.
 use Rattle.std.specs.Prelude.{◌≡◌, ℕ, ◌≤◌, List, [], ◌++◌, length, All, Result, Ok, Err}
 use Rattle.std.specs.Str.{IsAscii}
-use Rattle.dom_model.specs.Problem.{Problem}
-use Rattle.dom_model.specs.declared.goal.Goal.TheVariants.{Satisfy}
+use Rattle.first_model.specs.Problem.{Problem}
+use Rattle.first_model.specs.declared.goal.Goal.TheVariants.{Satisfy}
 use Rattle.fzn_model.specs.declared.error.ResolveError.{ResolveError}
 use Rattle.fzn_model.specs.declared.error.ResolveError.TheVariants.{NotBuilt, Memory}
 use Rattle.fzn_model.specs.Declarations.{IsBuilt, variables_by, variables_of, marks_by, marks_from}

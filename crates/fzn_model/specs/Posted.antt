@@ -1,11 +1,11 @@
 -- The constraints and the goal of a model, as far as they are built.
 use Rattle.std.specs.Prelude.{◌≡◌, ℕ, ◌<◌, ◌≤◌, List, [], ◌∷◌, length, ℤ, codes}
 use Rattle.dom_core.specs.declared.var_id.VarId.{VarId}
-use Rattle.dom_model.specs.Bounds.{IsModest, AreModest}
-use Rattle.dom_model.specs.declared.goal.Goal as model
-use Rattle.dom_model.specs.declared.goal.Goal.TheVariants as asked
-use Rattle.dom_model.specs.declared.kind.AnyKind.{AnyKind}
-use Rattle.dom_model.specs.declared.kind.AnyKind.TheVariants.{LinLe}
+use Rattle.first_model.specs.Bounds.{IsModest, AreModest}
+use Rattle.first_model.specs.declared.goal.Goal as model
+use Rattle.first_model.specs.declared.goal.Goal.TheVariants as asked
+use Rattle.first_model.specs.declared.kind.AnyKind.{AnyKind}
+use Rattle.first_model.specs.declared.kind.AnyKind.TheVariants.{LinLe}
 use Rattle.fzn_model.specs.Numbers.{IsNumbered}
 use Rattle.fzn_syntax.specs.declared.constraint.Constraint.{Constraint}
 use Rattle.fzn_syntax.specs.declared.declaration.Declaration.{Declaration}

@@ -1,7 +1,7 @@
 -- The model that items stand for, as far as it is built.
 use Rattle.std.specs.Prelude.{◌≡◌, List, Result, Ok, Err}
-use Rattle.dom_model.specs.Problem.{Problem}
-use Rattle.dom_model.specs.declared.kind.AnyKind.{AnyKind}
+use Rattle.first_model.specs.Problem.{Problem}
+use Rattle.first_model.specs.declared.kind.AnyKind.{AnyKind}
 use Rattle.fzn_model.specs.declared.error.ResolveError.{ResolveError}
 use Rattle.fzn_model.specs.declared.error.ResolveError.TheVariants.{NotBuilt, Memory}
 use Rattle.fzn_model.specs.Declarations.{variables_of, marks_from}

@@ -8,7 +8,7 @@ ghost use Rattle.fzn_model.specs.Resolves.{IsPostedNext};
 use crate::error::ResolveError;
 use crate::terms::{bound_of, coefficients_of, vars_of};
 use dom_core::{Values as Integers, Vars};
-use dom_model::{AnyKind, ModelBuilder};
+use first_model::{AnyKind, ModelBuilder};
 use fzn_syntax::{Constraint, Expression};
 use fzn_values::{Constants, one_integer, one_list};
 use std::alloc::Global;

@@ -10,7 +10,7 @@ use crate::constraints::post_all;
 use crate::error::ResolveError;
 use crate::numbers::{numbers_of, variable_named};
 use crate::variables::declare_all;
-use dom_model::{Goal, Model, ModelBuilder};
+use first_model::{Goal, Model, ModelBuilder};
 use fzn_symbols::Scope;
 use fzn_syntax::{Items, SolveGoal};
 use fzn_values::Constants;

@@ -1,7 +1,7 @@
 //! The coefficients, the variables and the bound of a sum.
 ghost use Rattle.std.specs.Prelude.{◌≡◌, ℕ, ◌↔◌, length, All, IsTrue, MatchOption};
 ghost use Rattle.dom_core.specs.declared.var_id.VarId.{VarId};
-ghost use Rattle.dom_model.specs.Bounds.{IsModest, AreModest};
+ghost use Rattle.first_model.specs.Bounds.{IsModest, AreModest};
 ghost use Rattle.fzn_model.specs.Answers.{Answers};
 ghost use Rattle.fzn_model.specs.Numbers.{AreNumbers};
 ghost use Rattle.fzn_model.specs.Posted.{AreCoefficients, AreFit, AreVars, AreVarsOf, IsSmallInt, IsBound, IsVar};

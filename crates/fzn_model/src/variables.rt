@@ -2,9 +2,9 @@
 ghost use Rattle.std.specs.Prelude.{◌≡◌, ◌<◌, ◌≤◌, ◌≤ℤ◌, ◌↔◌, length, All, IsTrue, MatchOption, OnOk, false};
 ghost use Rattle.std.specs.Str.{IsAscii};
 ghost use Rattle.dom_core.specs.Rises.{count_of};
-ghost use Rattle.dom_model.specs.Bounds.{IsFitDeclared, IsModest};
-ghost use Rattle.dom_model.specs.Problem.{empty_problem};
-ghost use Rattle.dom_model.specs.declared.form.Declared.TheVariants as declared;
+ghost use Rattle.first_model.specs.Bounds.{IsFitDeclared, IsModest};
+ghost use Rattle.first_model.specs.Problem.{empty_problem};
+ghost use Rattle.first_model.specs.declared.form.Declared.TheVariants as declared;
 ghost use Rattle.fzn_model.specs.Declarations.{IsBuiltVariable, IsBuiltRange, IsRangeOf, is_range, range_of, variables_by, variables_of};
 ghost use Rattle.fzn_model.specs.Declaring.{IsAsciiNamed, IsDeclared, IsDeclaredNext, with_declaration};
 ghost use Rattle.fzn_syntax.specs.declared.declaration.Declaration.TheVariants as declarations;
@@ -14,7 +14,7 @@ ghost use Rattle.fzn_syntax.specs.declared.element.VariableType.TheVariants as t
 use crate::error::ResolveError;
 use crate::marks::has_named;
 use dom_core::NoMemory;
-use dom_model::{Declared, Form, ModelBuilder, Output};
+use first_model::{Declared, Form, ModelBuilder, Output};
 use fzn_syntax::{Bounds, Declaration, Element, Number, VariableDeclaration, VariableType};
 
 /// Declares the variables of all declarations, in their order.

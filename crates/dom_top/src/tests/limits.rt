@@ -2,7 +2,7 @@
 use super::{ran, refuses};
 use crate::{Answer, ModelFault};
 use dom_core::Values;
-use fzn_limits::Counted;
+use dom_limits::Counted;
 use fzn_lower::ModelError;
 use std::alloc::{AllocError, Global};
 use std::test::Fail;

@@ -1,5 +1,5 @@
 -- The least assignment has a value for each variable.
-use Rattle.dom_model.proofs.Allowed.{allowed_length}
+use Rattle.first_model.proofs.Allowed.{allowed_length}
 use Rattle.dom_top.proofs.solving.report_best.Goals as goal
 
 pub answer_text-requires : goal.answer_text-requires

@@ -1,5 +1,5 @@
 use Rattle.std.proofs.Common.{◌≡◌, ◌∙◌, sym, subst}
-use Rattle.dom_model.specs.Bounds.{IsBounded}
+use Rattle.first_model.specs.Bounds.{IsBounded}
 use Rattle.fzn_model.proofs.Whole.{parts_resolve, resolves_bounded}
 use Rattle.fzn_model.specs.Resolves.{Resolves}
 use Rattle.fzn_model.proofs.resolving.model_of.Goals as goal

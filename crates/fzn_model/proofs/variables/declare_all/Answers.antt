@@ -1,5 +1,5 @@
 use Rattle.std.proofs.Common.{◌≡◌, ◌∙◌, ap, sym, length, arith}
-use Rattle.dom_model.specs.Problem.{Problem}
+use Rattle.first_model.specs.Problem.{Problem}
 use Rattle.fzn_model.specs.Declaring.{with_declaration}
 use Rattle.fzn_model.proofs.Declaring.{built_more, problem_more, number_bounded}
 use Rattle.fzn_model.proofs.variables.declare_all.Goals as goal
