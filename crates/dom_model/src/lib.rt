@@ -21,3 +21,4 @@ pub use goal::Goal;
 pub use model::Model;
 pub use outcome::drafts_have_one_outcome;
 pub use output::{Args, Output};
+pub use solved::place_of;

@@ -40,8 +40,8 @@ fn solved_at(alloc: Global, linear: Linear, place: usize) -> Result<AnyKind, NoM
     Ok(AnyKind::LinearOutput(LinearOutput::new(alloc, linear, place)?))
 }
 
-/// The place of the variable's first term.
-fn place_of(terms: &[Term], var: VarId) -> Option<usize>
+/// The place of the first term of the variable.
+pub fn place_of(terms: &[Term], var: VarId) -> Option<usize>
     ensures { result ≡ place_from 0 var terms.now }
 {
     for (place, term) in terms.iter().enumerate() {

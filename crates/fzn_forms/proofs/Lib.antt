@@ -1,3 +1,3 @@
 mod InStep
-mod Single
+pub mod Single
 mod Told

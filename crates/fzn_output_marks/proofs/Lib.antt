@@ -1,4 +1,4 @@
 mod GapLaws
 mod Literals
-mod SetLaws
+pub mod SetLaws
 mod SignLaws

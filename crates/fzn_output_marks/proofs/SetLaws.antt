@@ -136,7 +136,7 @@ one_are ws ss ts one other =
     let same : other.literals ≡ one.literals = one_argument ws other.literals one.literals other.written one.written in
     one_count one.literals ss ts one.ends (subst (λ (ls : List SetLiteral). CountAs ls ts) same other.ends)
 
-one_give : (arguments : Option (List Word)) (ss ts : List IndexSet) → GiveIndexSets arguments ss → GiveIndexSets arguments ts → ss ≡ ts
+pub one_give : (arguments : Option (List Word)) (ss ts : List IndexSet) → GiveIndexSets arguments ss → GiveIndexSets arguments ts → ss ≡ ts
 one_give (Some ws) ss ts one other = one_are ws ss ts one other
 one_give None ss ts one other = absurd one
 

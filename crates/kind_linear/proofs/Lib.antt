@@ -2,5 +2,5 @@ mod ArguedLaws
 mod KeepLaws
 mod OpenLaws
 mod ReplacedLaws
-mod SolvedLaws
+pub mod SolvedLaws
 mod TruthNextLaws
