@@ -1,7 +1,7 @@
 -- A text has one outcome.
 use Rattle.std.proofs.Common.{◌≡◌, ℕ, ◌≤◌, List, length, Result, Ok, Err, refl, subst, ap, arith}
-use Rattle.first_model.specs.Least.{width_of}
-use Rattle.first_model.specs.Problem.{Problem}
+use Rattle.dom_model.specs.Least.{width_of}
+use Rattle.dom_model.specs.Problem.{Problem}
 use Rattle.fzn_lex.specs.declared.tokens.Token.{Token}
 use Rattle.fzn_lex.specs.declared.errors.LexError.{LexError}
 use Rattle.fzn_lex.specs.declared.errors.LexError.TheVariants as lexing

@@ -1,5 +1,6 @@
 -- The line on standard error that tells an answer, and what a sink has of it.
-use Rattle.std.specs.Prelude.{◌≡◌, ◌⊎◌, ℕ, List, [], ◌∷◌, ◌++◌, Option, codes, decimal}
+use Rattle.std.specs.Prelude.{◌≡◌, ◌⊎◌, ℕ, ◌+◌, List, [], ◌∷◌, ◌++◌, Option, codes, decimal}
+use Rattle.dom_core.specs.declared.var_id.VarId.{VarId}
 use Rattle.dom_edge.specs.Causes.{CountRose}
 use Rattle.dom_edge.specs.Text.{Gains, GainsPrefix}
 use Rattle.dom_limits.specs.declared.counted.Counted.{Counted}
@@ -44,6 +45,10 @@ counted_text ArrayEntries = codes "array entries"
 counted_text ArgumentEntries = codes "argument entries"
 counted_text Free = codes "free variables"
 
+-- a fault and the variable that has it, by its number from 1
+abbrev pub of_variable : List ℕ → VarId → List ℕ
+of_variable text x = text ++ (codes " variable " ++ decimal (x.0 + 1))
+
 -- what is told of a fault of the items
 abbrev pub lower_text : ModelError → List ℕ
 lower_text (lowering.TooMany what count) = codes "too many " ++ (counted_text what ++ (codes ": " ++ decimal count))
@@ -52,6 +57,11 @@ lower_text (lowering.UnknownName at) = at_byte (codes "unknown name") at
 lower_text (lowering.UnknownConstraint at) = at_byte (codes "unknown constraint") at
 lower_text (lowering.WrongArguments at) = at_byte (codes "wrong arguments") at
 lower_text (lowering.FloatOrSet at) = at_byte (codes "float or set variable") at
+lower_text (lowering.CyclicDefinition x) = of_variable (codes "cyclic definition of") x
+lower_text (lowering.EmptyDomain x) = of_variable (codes "empty domain of") x
+lower_text (lowering.Unbounded x) = of_variable (codes "unbounded") x
+lower_text (lowering.DomainTooLarge x count) = of_variable (codes "domain of") x ++ (codes " has " ++ (decimal count ++ codes " values"))
+lower_text (lowering.TooWide c) = codes "constraint " ++ (decimal c ++ codes " too wide")
 lower_text lowering.NotBuilt = codes "not built"
 lower_text lowering.Memory = codes "no memory"
 

@@ -2,7 +2,7 @@
 use Rattle.std.specs.Prelude.{◌≢◌, ℕ, List}
 use Rattle.dom_edge.specs.Causes.{CountRose}
 use Rattle.dom_edge.specs.Text.{Gains, GainsPrefix}
-use Rattle.first_model.specs.Problem.{Problem}
+use Rattle.dom_model.specs.Problem.{Problem}
 use Rattle.fzn_print.specs.Canonical.{items_marks}
 use Rattle.fzn_print.specs.Marks.{text_of}
 use Rattle.fzn_print.specs.ReadBack.{ReadsBack}

@@ -2,10 +2,10 @@
 use Rattle.std.specs.Prelude.{◌≡◌, ◌⊎◌, ℕ, ℤ, true, List, codes}
 use Rattle.dom_edge.specs.Causes.{CountRose}
 use Rattle.dom_edge.specs.Text.{Gains, GainsPrefix}
-use Rattle.first_model.specs.Least.{IsFeasible, IsLeast}
-use Rattle.first_model.specs.Problem.{Problem}
-use Rattle.first_report.specs.Text.{answer_text_of}
-use Rattle.first_search.specs.Outcome.{AreNodes}
+use Rattle.dom_model.specs.Least.{IsFeasible, IsLeast}
+use Rattle.dom_model.specs.Problem.{Problem}
+use Rattle.dom_report.specs.Text.{answer_text_of}
+use Rattle.dom_search.specs.Outcome.{AreNodes}
 use Rattle.dom_top.specs.declared.answer.Answer.{Answer}
 use Rattle.dom_top.specs.declared.answer.Answer.TheVariants.{Best, Infeasible, Shown, ModelRefused, WordsRefused, ReadFault, WriteFault, NoMemory}
 use Rattle.dom_top.specs.Texts.{IsBuilt, IsFault}

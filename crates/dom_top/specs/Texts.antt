@@ -1,7 +1,7 @@
 -- The items of a text, the model that it stands for, and its first fault.
 use Rattle.std.specs.Prelude.{◌≡◌, ◌≢◌, ℕ, ◌<◌, ◌≤◌, List, length, Ok, Err}
-use Rattle.first_model.specs.Least.{width_of}
-use Rattle.first_model.specs.Problem.{Problem}
+use Rattle.dom_model.specs.Least.{width_of}
+use Rattle.dom_model.specs.Problem.{Problem}
 use Rattle.fzn_lex.specs.declared.tokens.Token.{Token}
 use Rattle.fzn_lex.specs.declared.errors.LexError.{LexError}
 use Rattle.fzn_lex.specs.declared.errors.LexError.TheVariants as lexing

@@ -1,12 +1,13 @@
 //! The line that tells an answer.
-ghost use Rattle.std.specs.Prelude.{◌≡◌, ◌≤◌, ◌++◌, IfOk, codes, string_bytes};
+ghost use Rattle.std.specs.Prelude.{◌≡◌, ◌≤◌, ◌+◌, ◌++◌, IfOk, codes, string_bytes};
 ghost use Rattle.dom_top.specs.Answers.{code_of};
-ghost use Rattle.dom_top.specs.Messages.{line, at_byte, lex_text, syntax_text, counted_text};
+ghost use Rattle.dom_top.specs.Messages.{line, at_byte, lex_text, syntax_text, counted_text, of_variable};
 ghost use Rattle.dom_top.specs.Messages.{lower_text, fault_text, message_of, Tells};
 
 use crate::answer::Answer;
 use crate::fault::ModelFault;
 use crate::writing::write_text;
+use dom_core::VarId;
 use dom_edge::Sink;
 use dom_limits::Counted;
 use fzn_lex::LexError;
@@ -89,9 +90,41 @@ fn text_of_lower(alloc: Global, error: ModelError) -> Result<String, AllocError>
         ModelError::UnknownConstraint { at } => text_at(alloc, "unknown constraint", at),
         ModelError::WrongArguments { at } => text_at(alloc, "wrong arguments", at),
         ModelError::FloatOrSet { at } => text_at(alloc, "float or set variable", at),
+        ModelError::CyclicDefinition { var } => text_of_variable(
+            alloc,
+            "cyclic definition of",
+            var,
+        ),
+        ModelError::EmptyDomain { var } => text_of_variable(alloc, "empty domain of", var),
+        ModelError::Unbounded { var } => text_of_variable(alloc, "unbounded", var),
+        ModelError::DomainTooLarge { var, count } => text_of_domain(alloc, var, count),
+        ModelError::TooWide { constraint } => format!(in alloc; "constraint {constraint} too wide"),
         ModelError::NotBuilt => String::from_str(alloc, "not built"),
         ModelError::Memory => String::from_str(alloc, "no memory"),
     }
+}
+
+// A fault and the variable's number, from 1.
+fn text_of_variable(alloc: Global, fault: &str, var: VarId) -> Result<String, AllocError>
+    ensures { IfOk result (λ text. string_bytes text ≡ of_variable fault.now var) }
+{
+    let number = number_of(var);
+    format!(in alloc; "{fault} variable {number}")
+}
+
+// How many values a variable has.
+fn text_of_domain(alloc: Global, var: VarId, count: u64) -> Result<String, AllocError>
+    ensures { IfOk result (λ text. string_bytes text ≡ lower_text (ModelError.DomainTooLarge var count)) }
+{
+    let number = number_of(var);
+    format!(in alloc; "domain of variable {number} has {count} values")
+}
+
+// The variable's number, from 1.
+fn number_of(var: VarId) -> u64
+    ensures { result ≡ var.0 + 1 }
+{
+    u64::from(var.0) + 1
 }
 
 // What there are too many of, and how many.

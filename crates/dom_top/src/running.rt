@@ -16,7 +16,7 @@ use crate::solving::solve_model;
 use crate::texts::{ReadingError, TEXT_LIMIT, read_text};
 use crate::words::{Command, read_words};
 use dom_edge::{Folder, ReadError, Sink, read_whole};
-use first_search::is_narrow;
+use dom_search::is_narrow;
 use std::alloc::Global;
 use std::thread::Threads;
 

@@ -1,7 +1,7 @@
 //! Solving a model, and writing the answer.
 ghost use Rattle.std.specs.Prelude.{◌≡◌, ◌≤◌};
-ghost use Rattle.first_model.specs.Least.{IsLeast, width_of};
-ghost use Rattle.first_search.specs.Outcome.{AreNodes};
+ghost use Rattle.dom_model.specs.Least.{IsLeast, width_of};
+ghost use Rattle.dom_search.specs.Outcome.{AreNodes};
 ghost use Rattle.dom_top.specs.Answers.{IsEarly};
 ghost use Rattle.dom_top.specs.Solved.{HasNone, IsSolved};
 ghost use Rattle.dom_top.specs.Written.{written};
@@ -10,9 +10,9 @@ use crate::answer::Answer;
 use crate::writing::{TextError, write_text};
 use dom_core::Assignment;
 use dom_edge::Sink;
-use first_model::Model;
-use first_report::answer_text;
-use first_search::{Outcome, search};
+use dom_model::Model;
+use dom_report::answer_text;
+use dom_search::{Outcome, search};
 use std::alloc::Global;
 
 // Solves a model that is narrow.

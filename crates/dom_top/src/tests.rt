@@ -1,7 +1,8 @@
 mod limits;
+mod rows;
 
 use super::*;
-use dom_core::Values;
+use dom_core::{Values, VarId};
 use dom_edge::{MemFolder, MemSink, NeverFolder, NeverSink, Sink};
 use dom_limits::Counted;
 use fzn_lex::LexError;
@@ -126,7 +127,7 @@ fn each_answer_has_its_code_and_its_line(rt: HostRuntime) -> Result<(), Fail> {
     Ok(())
 }
 
-const FAULTS: [(ModelFault, &str); 18] = [
+const FAULTS: [(ModelFault, &str); 23] = [
     (ModelFault::Lex(LexError::TooLong), "text too long"),
     (
         ModelFault::Lex(LexError::BadByte { at: 0 }),
@@ -198,6 +199,31 @@ const FAULTS: [(ModelFault, &str); 18] = [
             count: u64::MAX,
         }),
         "too many free variables: 18446744073709551615",
+    ),
+    (
+        ModelFault::Lower(ModelError::CyclicDefinition { var: VarId(0) }),
+        "cyclic definition of variable 1",
+    ),
+    (
+        ModelFault::Lower(ModelError::EmptyDomain { var: VarId(99_999) }),
+        "empty domain of variable 100000",
+    ),
+    (
+        ModelFault::Lower(ModelError::Unbounded {
+            var: VarId(u32::MAX),
+        }),
+        "unbounded variable 4294967296",
+    ),
+    (
+        ModelFault::Lower(ModelError::DomainTooLarge {
+            var: VarId(9),
+            count: 4_097,
+        }),
+        "domain of variable 10 has 4097 values",
+    ),
+    (
+        ModelFault::Lower(ModelError::TooWide { constraint: 1 }),
+        "constraint 1 too wide",
     ),
     (ModelFault::Lower(ModelError::NotBuilt), "not built"),
     (ModelFault::Lower(ModelError::Memory), "no memory"),
@@ -338,7 +364,7 @@ fn refuses<R: Threads + Sync + AllocGlobal>(
     Ok(answer == refused && out.is_empty() && err.as_slice() == line.as_bytes())
 }
 
-const REFUSED: [(&str, ModelFault); 12] = [
+const REFUSED: [(&str, ModelFault); 13] = [
     ("", ModelFault::Syntax(SyntaxError::Unexpected { at: 0 })),
     (
         "var 0..3: x",
@@ -377,12 +403,19 @@ const REFUSED: [(&str, ModelFault); 12] = [
         ModelFault::Lower(ModelError::FloatOrSet { at: 11 }),
     ),
     (
-        "var 0..1: x;\nsolve maximize x;\n",
+        "var 0..1: x;\nconstraint int_times(x,x,x);\nsolve satisfy;\n",
         ModelFault::Lower(ModelError::NotBuilt),
     ),
     (
-        "var 0..4096: x;\nsolve satisfy;\n",
-        ModelFault::Lower(ModelError::NotBuilt),
+        "var 0..1: x;\nvar 0..4096: y;\nsolve satisfy;\n",
+        ModelFault::Lower(ModelError::DomainTooLarge {
+            var: VarId(1),
+            count: 4_097,
+        }),
+    ),
+    (
+        "var 0..1: x;\nvar 3..2: y;\nsolve satisfy;\n",
+        ModelFault::Lower(ModelError::EmptyDomain { var: VarId(1) }),
     ),
 ];
 

@@ -5,7 +5,7 @@ ghost use Rattle.dom_top.specs.Texts.{HasItems, EveryTextHasOneOutcome};
 ghost use Rattle.dom_top.specs.Reading.{IsItemsOf, IsReadingOf};
 
 use crate::fault::ModelFault;
-use first_model::Model;
+use dom_model::Model;
 use fzn_lex::{LexError, Token, lex};
 use fzn_lower::{ModelError, lower};
 use fzn_syntax::{Items, SyntaxError, parse};

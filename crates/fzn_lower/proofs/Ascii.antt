@@ -6,7 +6,7 @@ use Rattle.std.proofs.lemmas.Bool.Decides.{nat_tests}
 use Rattle.std.proofs.lemmas.List.Elements.{All-nil, All-cons, All-weaker, All-from_recursion}
 use Rattle.std.proofs.lemmas.Str.Ascii.{IsAscii-from_all}
 use Rattle.fzn_lex.specs.Classes.{is_letter, is_digit, is_word}
-use Rattle.fzn_model.specs.Declaring.{IsAsciiNamed}
+use Rattle.fzn_model.specs.Variables.{IsAsciiNamed}
 use Rattle.fzn_syntax.proofs.Spelled.{IsSpelledName, whole_words}
 use Rattle.fzn_syntax.proofs.SpelledItems.{IsSpelledDeclaration, items_spelled}
 use Rattle.fzn_syntax.specs.Texts.{AreOfText}

@@ -1,6 +1,10 @@
 -- Each step finds one thing at most, and so items have one answer.
 use Rattle.std.proofs.Common.{◌≡◌, ◌⊎◌, ℕ, zero, suc, ◌<◌, ◌≤◌, slice_get, List, Option, Some, None, Result, Ok, Err, inl, inr, refl, sym, ◌∙◌, ap, subst, arith}
-use Rattle.first_model.specs.Problem.{Problem}
+use Rattle.dom_model.specs.Draft.{Draft}
+use Rattle.dom_model.specs.Finished.{Finishes, HasOneOutcome}
+use Rattle.dom_model.specs.Problem.{Problem}
+use Rattle.dom_model.specs.declared.error.BuildError.{BuildError}
+use Rattle.dom_model.specs.declared.error.BuildError.TheVariants as build
 use Rattle.dom_limits.specs.declared.counted.Counted.{Counted}
 use Rattle.dom_limits.specs.declared.counted.Counted.TheVariants.{Variables, Constraints, ArrayEntries, ArgumentEntries, Free}
 use Rattle.fzn_limits.specs.Entries.{entries_of}
@@ -12,11 +16,11 @@ use Rattle.fzn_check.specs.declared.fault.Fault.{Fault}
 use Rattle.fzn_check.specs.declared.fault.Fault.TheVariants as faults
 use Rattle.fzn_lower.proofs.Chained.{one_behind}
 use Rattle.fzn_lower.specs.Finding.{Step, FindsOne, ◌⟫◌}
-use Rattle.fzn_lower.specs.Lowered.{Lowers, HasOneAnswer}
+use Rattle.fzn_lower.specs.Lowered.{HasBuildFault, HasOneAnswer, Lowers, answer_told}
 use Rattle.fzn_lower.specs.Steps.{FindsSize, FindsName, FindsUnknown, FindsDeclaration, FindsConstraint, FindsSolve, FindsEntries, FindsFault}
 use Rattle.fzn_lower.specs.declared.error.ModelError.{ModelError}
-use Rattle.fzn_lower.specs.declared.error.ModelError.TheVariants.{TooMany, NameTwice, UnknownName, UnknownConstraint, WrongArguments, FloatOrSet, NotBuilt, Memory}
-use Rattle.fzn_model.specs.Resolves.{Resolves, ResolvesOne}
+use Rattle.fzn_lower.specs.declared.error.ModelError.TheVariants.{TooMany, NameTwice, UnknownName, UnknownConstraint, WrongArguments, FloatOrSet, CyclicDefinition, EmptyDomain, Unbounded, DomainTooLarge, TooWide, NotBuilt, Memory}
+use Rattle.fzn_model.specs.Drafts.{Drafts, DraftsOne}
 use Rattle.fzn_symbols.specs.declared.error.NameError.{NameError}
 use Rattle.fzn_symbols.specs.declared.error.NameError.TheVariants as names
 use Rattle.fzn_symbols.specs.Scoped.{IsScoped}
@@ -90,13 +94,13 @@ one_size t = looks_one (FindsSize t) (IsCounted t (Ok tt)) (IsSizeError t) (size
 
 -- ---- names
 
-abbrev told : NameError → ModelError
-told (names.NameTwice at) = NameTwice at
-told (names.UnknownName at) = UnknownName at
-told names.Memory = Memory
+abbrev name_told : NameError → ModelError
+name_told (names.NameTwice at) = NameTwice at
+name_told (names.UnknownName at) = UnknownName at
+name_told names.Memory = Memory
 
 abbrev IsNameError : Items → ModelError → Type 0
-IsNameError t e = (f : NameError) × (f ≡ names.Memory → ⊥) × (e ≡ told f) × IsScoped t (Err f)
+IsNameError t e = (f : NameError) × (f ≡ names.Memory → ⊥) × (e ≡ name_told f) × IsScoped t (Err f)
 
 twice_is_no_memory : (at : ℕ) → names.NameTwice at ≡ names.Memory → ⊥
 twice_is_no_memory at e = absurd cc
@@ -122,7 +126,7 @@ err_one e = cc
 one_name : (t : Items) → ScopesOne → FindsOne (FindsName t)
 one_name t law = looks_one (FindsName t) (IsScoped t (Ok t.declarations)) (IsNameError t) (name_looks t)
     (λ e a b. ok_err (law t (Ok t.declarations) (Err b.0) a b.3 (λ m. ok_err m) (λ m. b.1 (err_one m))))
-    (λ d e b c. b.2 ∙ ap told (err_one (law t (Err b.0) (Err c.0) b.3 c.3 (λ m. b.1 (err_one m)) (λ m. c.1 (err_one m)))) ∙ sym c.2)
+    (λ d e b c. b.2 ∙ ap name_told (err_one (law t (Err b.0) (Err c.0) b.3 c.3 (λ m. b.1 (err_one m)) (λ m. c.1 (err_one m)))) ∙ sym c.2)
 
 -- ---- unknown constraints
 
@@ -253,22 +257,38 @@ module _ (scopes : ScopesOne) (declarations : declared.HaveOneFirst) (posts : po
       (one_behind (FindsConstraint t) (FindsSolve t ⟫ FindsEntries t) (one_constraint t posts)
       (one_behind (FindsSolve t) (FindsEntries t) (one_goal t) (one_entries t))))))
 
-  -- an answer but for want of memory: a model, that none is built, or a fault
+  -- the answer is that over what the items are put together as
+  abbrev Ended : Items → Result Problem ModelError → Type 0
+  Ended t r = (d : Draft) × (q : Result Problem BuildError) × Drafts t d × Finishes d q × (q ≡ Err build.Memory → ⊥) × (r ≡ answer_told q)
+
+  -- an answer but for want of memory: that over what the items are put together as, that they can't be, or a fault
   abbrev Sorts : Items → Result Problem ModelError → Type 0
   Sorts t r =
-      ((p : Problem) × (r ≡ Ok p) × FindsFault t None × Resolves t p)
-      ⊎ (((r ≡ Err NotBuilt) × FindsFault t None × ((p : Problem) → Resolves t p → ⊥)) ⊎ ((e : ModelError) × (r ≡ Err e) × FindsFault t (Some e)))
+      (FindsFault t None × Ended t r)
+      ⊎ (((r ≡ Err NotBuilt) × FindsFault t None × ((d : Draft) → Drafts t d → ⊥)) ⊎ ((e : ModelError) × (r ≡ Err e) × FindsFault t (Some e)))
+
+  model_is_no_memory : (p : Problem) → ◌≡◌ {A = Result Problem BuildError} (Ok p) (Err build.Memory) → ⊥
+  model_is_no_memory p e = absurd cc
+
+  fault_is_no_memory : (e : BuildError) → (e ≡ build.Memory → ⊥) → ◌≡◌ {A = Result Problem BuildError} (Err e) (Err build.Memory) → ⊥
+  fault_is_no_memory e other is = other (err_one is)
 
   sorted : (t : Items) (r : Result Problem ModelError) → Lowers (FindsFault t) t r → (r ≡ Err Memory → ⊥) → Sorts t r
-  sorted t (Ok p) h m = inl (p, refl, h.0, h.1)
+  sorted t (Ok p) h m = inl (h.0, (h.1.draft, Ok p, h.1.put, h.1.finished, model_is_no_memory p, refl))
   sorted t (Err NotBuilt) h m = inr (inl (refl, h.0, h.1))
   sorted t (Err Memory) h m = absurd (m refl)
-  sorted t (Err (TooMany what n)) h m = inr (inr (TooMany what n, refl, h))
+  sorted t (Err (TooMany what n)) (inl h) m = inr (inr (TooMany what n, refl, h))
+  sorted t (Err (TooMany what n)) (inr h) m = inl (h.0, (h.1.draft, Err (build.TooMany what n), h.1.put, h.1.fault, fault_is_no_memory (build.TooMany what n) (λ e. absurd cc), refl))
   sorted t (Err (NameTwice at)) h m = inr (inr (NameTwice at, refl, h))
   sorted t (Err (UnknownName at)) h m = inr (inr (UnknownName at, refl, h))
   sorted t (Err (UnknownConstraint at)) h m = inr (inr (UnknownConstraint at, refl, h))
   sorted t (Err (WrongArguments at)) h m = inr (inr (WrongArguments at, refl, h))
   sorted t (Err (FloatOrSet at)) h m = inr (inr (FloatOrSet at, refl, h))
+  sorted t (Err (CyclicDefinition x)) h m = inl (h.0, (h.1.draft, Err (build.CyclicDefinition x), h.1.put, h.1.fault, fault_is_no_memory (build.CyclicDefinition x) (λ e. absurd cc), refl))
+  sorted t (Err (EmptyDomain x)) h m = inl (h.0, (h.1.draft, Err (build.EmptyDomain x), h.1.put, h.1.fault, fault_is_no_memory (build.EmptyDomain x) (λ e. absurd cc), refl))
+  sorted t (Err (Unbounded x)) h m = inl (h.0, (h.1.draft, Err (build.Unbounded x), h.1.put, h.1.fault, fault_is_no_memory (build.Unbounded x) (λ e. absurd cc), refl))
+  sorted t (Err (DomainTooLarge x n)) h m = inl (h.0, (h.1.draft, Err (build.DomainTooLarge x n), h.1.put, h.1.fault, fault_is_no_memory (build.DomainTooLarge x n) (λ e. absurd cc), refl))
+  sorted t (Err (TooWide c)) h m = inl (h.0, (h.1.draft, Err (build.TooWide c), h.1.put, h.1.fault, fault_is_no_memory (build.TooWide c) (λ e. absurd cc), refl))
 
   fault_none : (t : Items) (e : ModelError) → FindsFault t None → FindsFault t (Some e) → ⊥
   fault_none t e h k = some_none refl (one_fault t (Some e) None k h)
@@ -276,26 +296,32 @@ module _ (scopes : ScopesOne) (declarations : declared.HaveOneFirst) (posts : po
   different : (t : Items) → FindsFault t None → AreDifferent (names_of t.declarations)
   different t h = h.1.0.1
 
-  pub one_answer : ResolvesOne → HasOneAnswer
-  one_answer resolves t one other h k m n =
+  one_ended : DraftsOne → HasOneOutcome → (t : Items) (r s : Result Problem ModelError) → FindsFault t None → Ended t r → Ended t s → r ≡ s
+  one_ended drafts outcomes t r s fine a b =
+      let same : a.0 ≡ b.0 = drafts t a.0 b.0 (different t fine) a.2 b.2 in
+      let again : Finishes b.0 a.1 = subst (λ (d : Draft). Finishes d a.1) same a.3 in
+      a.5 ∙ ap answer_told (outcomes b.0 a.1 b.1 again b.3 a.4 b.4) ∙ sym b.5
+
+  pub one_answer : DraftsOne → HasOneOutcome → HasOneAnswer
+  one_answer drafts outcomes t one other h k m n =
       elim (sorted t one h m) [
         | inl a ↦ elim (sorted t other k n) [
-          | inl b ↦ a.1 ∙ ap Ok (resolves t a.0 b.0 (different t a.2) a.3 b.3) ∙ sym b.1
+          | inl b ↦ one_ended drafts outcomes t one other a.0 a.1 b.1
           | inr g ↦ elim g [
-            | inl b ↦ absurd (b.2 a.0 a.3)
-            | inr b ↦ absurd (fault_none t b.0 a.2 b.2)
+            | inl b ↦ absurd (b.2 a.1.0 a.1.2)
+            | inr b ↦ absurd (fault_none t b.0 a.0 b.2)
           ]
         ]
         | inr f ↦ elim f [
           | inl a ↦ elim (sorted t other k n) [
-            | inl b ↦ absurd (a.2 b.0 b.3)
+            | inl b ↦ absurd (a.2 b.1.0 b.1.2)
             | inr g ↦ elim g [
               | inl b ↦ a.0 ∙ sym b.0
               | inr b ↦ absurd (fault_none t b.0 a.1 b.2)
             ]
           ]
           | inr a ↦ elim (sorted t other k n) [
-            | inl b ↦ absurd (fault_none t a.0 b.2 a.2)
+            | inl b ↦ absurd (fault_none t a.0 b.0 a.2)
             | inr g ↦ elim g [
               | inl b ↦ absurd (fault_none t a.0 b.1 a.2)
               | inr b ↦ a.1 ∙ ap Err (some_one refl (one_fault t (Some a.0) (Some b.0) a.2 b.2)) ∙ sym b.1

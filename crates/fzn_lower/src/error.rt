@@ -1,7 +1,7 @@
 //! The first fault of items.
+use dom_core::VarId;
 use dom_limits::Counted;
-use fzn_model::ResolveError;
-use fzn_symbols::NameError;
+use dom_model::BuildError;
 use std::alloc::{AllocError, AllocFailed};
 use thiserror::Error;
 
@@ -20,6 +20,21 @@ pub enum ModelError {
     WrongArguments { at: u64 },
     #[error("float or set variable at byte {at}")]
     FloatOrSet { at: u64 },
+    /// The first variable whose definition depends on it.
+    #[error("cyclic definition")]
+    CyclicDefinition { var: VarId },
+    /// The first variable without a domain: its declaration allows no value.
+    #[error("empty domain")]
+    EmptyDomain { var: VarId },
+    /// Likewise: nothing defines it, and its declaration allows every integer.
+    #[error("unbounded variable")]
+    Unbounded { var: VarId },
+    /// Likewise: nothing defines it, and it has too many values.
+    #[error("domain has {count} values")]
+    DomainTooLarge { var: VarId, count: u64 },
+    /// The number, from 1, of the first constraint whose sum or product can be too large, or that gives its variable too large a value.
+    #[error("constraint {constraint} too wide")]
+    TooWide { constraint: u32 },
     /// Nothing is wrong, and what the items say is not built yet.
     #[error("not built")]
     NotBuilt,

@@ -1,14 +1,14 @@
 //! From items to their model.
 ghost use Rattle.std.specs.Prelude.{◌≡◌, None};
-ghost use Rattle.fzn_lower.specs.Lowered.{HasOneAnswer, IsLowered, Lowers};
+ghost use Rattle.fzn_lower.specs.Lowered.{Ends, HasOneAnswer, IsLowered, Lowers, told};
 ghost use Rattle.fzn_syntax.specs.Texts.{AreOfText};
 ghost use Rattle.fzn_lower.specs.Steps.{FindsSize, FindsName, FindsDeclaration, FindsNameOn, FindsUnknownOn, FindsDeclarationOn, FindsConstraintOn};
 
 use crate::error::ModelError;
 use crate::steps::{check_declarations, check_names, check_sizes, check_valued};
-use first_model::Model;
+use dom_model::{BuildError, Model, ModelBuilder, drafts_have_one_outcome};
 use fzn_check::{constraints_have_one_first_fault, declarations_have_one_first_fault};
-use fzn_model::{ResolveError, model_of};
+use fzn_model::{ResolveError, draft_of, one_draft};
 use fzn_symbols::{NameError, Scope, items_have_one_scope, scope_of};
 use fzn_syntax::Items;
 use fzn_values::Constants;
@@ -22,7 +22,8 @@ pub fn items_have_one_answer()
     items_have_one_scope();
     declarations_have_one_first_fault();
     constraints_have_one_first_fault();
-    fzn_model::one_model();
+    one_draft();
+    drafts_have_one_outcome();
 }
 
 /// The model of the items of some text, or their first fault.
@@ -82,16 +83,41 @@ fn lower_typed(alloc: Global, scope: &Scope<'_>, items: &Items) -> Result<Model,
     lower_fine(alloc, &values, items)
 }
 
-// The model of items without a fault.
+// The model of items in which no step finds a fault.
 fn lower_fine(alloc: Global, values: &Constants<'_>, items: &Items) -> Result<Model, ModelError>
     requires same { values.now ≡ items.now.declarations }
     requires text { AreOfText items.now }
+    requires sized { FindsSize items.now None }
     requires fine { FindsConstraintOn items.now None }
     ensures { Lowers (FindsConstraintOn items.now) items.now result }
 {
-    match model_of(alloc, values, items) {
-        Ok(model) => Ok(model),
+    match draft_of(alloc, values, items) {
+        Ok(draft) => finish(draft),
         Err(ResolveError::NotBuilt) => Err(ModelError::NotBuilt),
         Err(ResolveError::Memory) => Err(ModelError::Memory),
+    }
+}
+
+fn finish(draft: ModelBuilder) -> Result<Model, ModelError>
+    ensures { Ends draft result }
+{
+    match draft.finish() {
+        Ok(model) => Ok(model),
+        Err(error) => Err(told(error)),
+    }
+}
+
+// The fault of items that are put together so.
+fn told(error: BuildError) -> ModelError
+    ensures { result ≡ told error }
+{
+    match error {
+        BuildError::CyclicDefinition { var } => ModelError::CyclicDefinition { var },
+        BuildError::EmptyDomain { var } => ModelError::EmptyDomain { var },
+        BuildError::Unbounded { var } => ModelError::Unbounded { var },
+        BuildError::DomainTooLarge { var, count } => ModelError::DomainTooLarge { var, count },
+        BuildError::TooMany { what, count } => ModelError::TooMany { what, count },
+        BuildError::TooWide { constraint } => ModelError::TooWide { constraint },
+        BuildError::Memory => ModelError::Memory,
     }
 }

@@ -1,6 +1,7 @@
 //! Texts with their models and their first faults.
 use crate::{ModelError, items_have_one_answer, lower};
-use first_model::Model;
+use dom_core::VarId;
+use dom_model::Model;
 use fzn_lex::lex;
 use fzn_syntax::parse;
 use std::test::Fail;
@@ -18,7 +19,7 @@ fn answer(rt: &HostRuntime, text: &str) -> Result<Model, ModelError> {
     lower(rt.alloc(), &items)
 }
 
-const FAULTS: [(&str, ModelError); 14] = [
+const FAULTS: [(&str, ModelError); 18] = [
     (
         "var 0..1: x;\nvar 0..1: x;\nsolve satisfy;\n",
         ModelError::NameTwice { at: 23 },
@@ -60,11 +61,36 @@ const FAULTS: [(&str, ModelError); 14] = [
         "bool: b = true;\nsolve minimize b;\n",
         ModelError::WrongArguments { at: 16 },
     ),
-    ("var bool: b;\nsolve satisfy;\n", ModelError::NotBuilt),
-    ("var 0..3: x;\nsolve maximize x;\n", ModelError::NotBuilt),
     (
-        "var 0..3: x;\nconstraint int_le(x,2);\nsolve satisfy;\n",
+        "var int: x;\nsolve minimize y;\n",
+        ModelError::UnknownName { at: 27 },
+    ),
+    (
+        "var 3..2: x;\nconstraint int_times(x,x,x);\nsolve satisfy;\n",
         ModelError::NotBuilt,
+    ),
+    (
+        "var 0..3: x;\nvar 0..3: y;\nconstraint int_lin_eq([1,-1],[x,y],0) :: defines_var(x);\nconstraint int_lin_eq([1,-1],[x,y],1) :: defines_var(y);\nsolve satisfy;\n",
+        ModelError::CyclicDefinition { var: VarId(0) },
+    ),
+    (
+        "var bool: b;\nvar 3..2: x;\nvar int: y;\nsolve satisfy;\n",
+        ModelError::EmptyDomain { var: VarId(1) },
+    ),
+    (
+        "var int: x;\nvar 3..2: y;\nsolve satisfy;\n",
+        ModelError::Unbounded { var: VarId(0) },
+    ),
+    (
+        "var 0..4096: x;\nsolve satisfy;\n",
+        ModelError::DomainTooLarge {
+            var: VarId(0),
+            count: 4_097,
+        },
+    ),
+    (
+        "var {1125899906842624}: x;\nconstraint int_lin_le([-1125899906842624,1],[x,1],0);\nsolve satisfy;\n",
+        ModelError::TooWide { constraint: 1 },
     ),
 ];
 
@@ -77,17 +103,12 @@ fn the_first_fault_is_told(rt: HostRuntime) -> Result<(), Fail> {
     Ok(())
 }
 
-const UNBUILT: [&str; 10] = [
-    "var 0..4096: x;\nsolve satisfy;\n",
-    "var 3..2: x;\nsolve satisfy;\n",
-    "var 0..1000001: x;\nsolve satisfy;\n",
-    "var int: x;\nsolve satisfy;\n",
-    "var {1,3}: x;\nsolve satisfy;\n",
-    "var 0..1: x = 1;\nsolve satisfy;\n",
-    "var 0..1: x;\nconstraint int_lin_le([1000001],[x],0);\nsolve satisfy;\n",
-    "var 0..1: x;\nconstraint int_lin_le([1],[2],3);\nsolve satisfy;\n",
-    "constraint int_lin_le([],[],0);\nsolve satisfy;\n",
-    "var 0..1: x;\narray [1..1] of var int: xs :: output_array([1..1]) = [x];\nsolve satisfy;\n",
+const UNBUILT: [&str; 5] = [
+    "var 0..3: x;\nconstraint int_times(x,x,x);\nsolve satisfy;\n",
+    "var 0..3: x;\nconstraint int_max(x,2,x);\nsolve satisfy;\n",
+    "var 0..3: x;\nconstraint set_in(x,1..2);\nsolve satisfy;\n",
+    "var 0..3: x;\nvar 0..3: y;\nconstraint fzn_all_different_int([x,y]);\nsolve satisfy;\n",
+    "var 1..3: x;\nvar 0..9: y;\nconstraint array_int_element(x,[7,5,6],y);\nsolve satisfy;\n",
 ];
 
 #[test]

@@ -1,6 +1,9 @@
+mod Bounds
 mod Declaring
-mod Numbered
-mod Posted
-mod Single
-mod Sums
+mod DefiningLaws
+mod Equating
+mod Fitting
+mod Folding
+mod Postings
+mod Printing
 mod Whole

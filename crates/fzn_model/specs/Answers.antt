@@ -1,4 +1,4 @@
--- What is answered where something may not be built yet.
+-- What is answered where something may not be built.
 use Rattle.std.specs.Prelude.{Result, Ok, Err}
 use Rattle.fzn_model.specs.declared.error.ResolveError.{ResolveError}
 use Rattle.fzn_model.specs.declared.error.ResolveError.TheVariants.{NotBuilt, Memory}

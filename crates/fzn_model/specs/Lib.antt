@@ -1,6 +1,9 @@
 pub mod Answers
-pub mod Declarations
-pub mod Declaring
-pub mod Numbers
-pub mod Posted
-pub mod Resolves
+pub mod Variables
+pub mod Found
+pub mod Outputs
+pub mod Goals
+pub mod Defining
+pub mod Posting
+pub mod Steps
+pub mod Drafts

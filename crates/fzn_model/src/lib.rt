@@ -1,16 +1,18 @@
-//! The model that the items of a text stand for, as far as it is built.
+//! What the items of a text are put together as: variables, constraints and which of these define variables, a goal and outputs.
 #![tactic(auto)]
 
-mod constraints;
+mod defining;
+mod drafting;
 mod error;
+mod goal;
+mod initial;
 mod marks;
-mod numbers;
-mod resolving;
-mod terms;
+mod outputs;
+mod posting;
 mod variables;
 
+pub use drafting::{draft_of, one_draft};
 pub use error::ResolveError;
-pub use resolving::{model_of, one_model};
 
 #[cfg(test)]
 mod tests;

@@ -1,84 +1,60 @@
-//! The variables of a model.
-ghost use Rattle.std.specs.Prelude.{◌≡◌, ◌<◌, ◌≤◌, ◌≤ℤ◌, ◌↔◌, length, All, IsTrue, MatchOption, OnOk, false};
+//! The variables that declarations declare.
+ghost use Rattle.std.specs.Prelude.{◌≡◌, ◌+◌, ◌<◌, ◌≤◌, ◌↔◌, length, map, All, IfOk, IsTrue, OnOk};
 ghost use Rattle.std.specs.Str.{IsAscii};
-ghost use Rattle.dom_core.specs.Rises.{count_of};
-ghost use Rattle.first_model.specs.Bounds.{IsFitDeclared, IsModest};
-ghost use Rattle.first_model.specs.Problem.{empty_problem};
-ghost use Rattle.first_model.specs.declared.form.Declared.TheVariants as declared;
-ghost use Rattle.fzn_model.specs.Declarations.{IsBuiltVariable, IsBuiltRange, IsRangeOf, is_range, range_of, variables_by, variables_of};
-ghost use Rattle.fzn_model.specs.Declaring.{IsAsciiNamed, IsDeclared, IsDeclaredNext, with_declaration};
+ghost use Rattle.dom_core.specs.Small.{IsSmall};
+ghost use Rattle.dom_model.specs.Draft.{AreSmallIntegers, empty_draft, IsSmallDeclared};
+ghost use Rattle.fzn_limits.specs.Sizes.{limit, variables_in};
+ghost use Rattle.fzn_arguments.specs.Numbers.{base_of};
+ghost use Rattle.fzn_model.specs.Answers.{Answers};
+ghost use Rattle.fzn_model.specs.Found.{count_by};
+ghost use Rattle.fzn_model.specs.Variables.{AreDeclared, declared_element, declared_of, form_of, integer_of, IsAsciiNamed, IsBuiltAs, IsBuiltType, IsDeclaredNext};
 ghost use Rattle.fzn_syntax.specs.declared.declaration.Declaration.TheVariants as declarations;
-ghost use Rattle.fzn_syntax.specs.declared.element.Element.TheVariants as elements;
-ghost use Rattle.fzn_syntax.specs.declared.element.VariableType.TheVariants as types;
 
 use crate::error::ResolveError;
-use crate::marks::has_named;
-use dom_core::NoMemory;
-use first_model::{Declared, Form, ModelBuilder, Output};
-use fzn_syntax::{Bounds, Declaration, Element, Number, VariableDeclaration, VariableType};
+use dom_core::Values;
+use dom_definers::{Declared, Form};
+use dom_model::ModelBuilder;
+use fzn_symbols::{Base, base_of_variable};
+use fzn_syntax::{Declaration, Element, Number, VariableDeclaration, VariableType};
+use std::alloc::{AllocError, Global};
 
-/// Declares the variables of all declarations, in their order.
+/// Adds the variables of all declarations, in their order.
 pub(crate) fn declare_all(
+    alloc: Global,
     builder: &mut ModelBuilder,
     declarations: &[Declaration],
 ) -> Result<(), ResolveError>
     requires ascii { All IsAsciiNamed declarations.now }
-    requires empty { builder.old ≡ empty_problem }
-    ensures { IsDeclared declarations.now builder.new result }
+    requires few { variables_in declarations.now ≤ limit }
+    requires empty { builder.old ≡ empty_draft }
+    ensures { AreDeclared declarations.now builder.new result }
 {
-    if variables_in(declarations) > 4096 {
-        return Err(ResolveError::NotBuilt);
-    }
     for declaration in declarations {
-        declare_one(builder, declaration)?;
+        declare_one(alloc, builder, declaration)?;
     }
     Ok(())
 }
 
-// How many variables are declared.
-fn variables_in(declarations: &[Declaration]) -> usize
-    ensures { result ≡ length (variables_of declarations.now) }
-{
-    let mut count = 0;
-    for declaration in declarations {
-        count += variables_by(declaration);
-    }
-    count
-}
-
-pub(crate) fn variables_by(declaration: &Declaration) -> usize
-    ensures count { result ≡ length (variables_by declaration.now) }
-    ensures one { result ≤ 1 }
-{
-    match declaration {
-        Declaration::Parameter(_) => 0,
-        Declaration::Variable(_) => 1,
-        Declaration::ParameterArray(_) => 0,
-        Declaration::VariableArray(_) => 0,
-    }
-}
-
-// Declares the variable of a declaration that has one.
-fn declare_one(builder: &mut ModelBuilder, declaration: &Declaration) -> Result<(), ResolveError>
+// Adds the variable of a declaration that has one.
+fn declare_one(
+    alloc: Global,
+    builder: &mut ModelBuilder,
+    declaration: &Declaration,
+) -> Result<(), ResolveError>
     requires ascii { IsAsciiNamed declaration.now }
-    requires room { length builder.old.variables < 100000 }
+    requires room { length builder.old.variables + count_by declaration.now ≤ limit }
     ensures { IsDeclaredNext builder.old declaration.now builder.new result }
 {
     match declaration {
         Declaration::Parameter(_) => Ok(()),
-        Declaration::Variable(variable) => declare_variable(builder, variable),
+        Declaration::Variable(variable) => declare_variable(alloc, builder, variable),
         Declaration::ParameterArray(_) => Ok(()),
-        Declaration::VariableArray(array) => {
-            if has_named(b"output_array", array.annotations.as_slice()) {
-                Err(ResolveError::NotBuilt)
-            } else {
-                Ok(())
-            }
-        }
+        Declaration::VariableArray(_) => Ok(()),
     }
 }
 
 fn declare_variable(
+    alloc: Global,
     builder: &mut ModelBuilder,
     variable: &VariableDeclaration,
 ) -> Result<(), ResolveError>
@@ -86,33 +62,9 @@ fn declare_variable(
     requires room { length builder.old.variables < 100000 }
     ensures { IsDeclaredNext builder.old (declarations.Variable variable.now) builder.new result }
 {
-    match built_range(variable) {
-        None => Err(ResolveError::NotBuilt),
-        Some((lo, hi)) => {
-            add_variable(builder, variable, lo, hi)?;
-            Ok(())
-        }
-    }
-}
-
-// Adds a variable with this range, and its mark.
-fn add_variable(
-    builder: &mut ModelBuilder,
-    variable: &VariableDeclaration,
-    lo: i64,
-    hi: i64,
-) -> Result<(), NoMemory>
-    requires ascii { IsAscii variable.now.name.name }
-    requires range { range_of variable.now.element ≡ declared.Range lo hi }
-    requires room { length builder.old.variables < 100000 }
-    ensures { OnOk result (builder.new ≡ with_declaration builder.old (declarations.Variable variable.now)) }
-{
-    let range = Declared::Range { lo, hi };
+    let declared = built_as(alloc, variable)?;
     let name = text_of(variable.name.name.as_bytes());
-    let var = builder.variable(name, Form::Int, range)?;
-    if has_named(b"output_var", variable.annotations.as_slice()) {
-        builder.output(Output::Scalar(var))?;
-    }
+    builder.variable(name, form_of(&variable.element), declared)?;
     Ok(())
 }
 
@@ -126,64 +78,117 @@ fn text_of(bytes: &[u8]) -> &str
     }
 }
 
-// The range of a variable that is built.
-fn built_range(variable: &VariableDeclaration) -> Option<(i64, i64)>
-    ensures { MatchOption result (IsBuiltVariable variable.now → ⊥) (IsBuiltRange variable.now) }
+// The values that are declared of a variable which is built.
+fn built_as(alloc: Global, variable: &VariableDeclaration) -> Result<Declared, ResolveError>
+    ensures { Answers (IsBuiltAs variable.now) result }
 {
-    if variable.value.is_some() {
-        return None;
+    if !is_built_type(&variable.element) {
+        return Err(ResolveError::NotBuilt);
     }
-    match range_of(&variable.element) {
-        None => None,
-        Some((lo, hi)) => { if is_fit(lo, hi) { Some((lo, hi)) } else { None } }
-    }
-}
-
-// Whether a range has a value, few values, and small ones.
-fn is_fit(lo: i64, hi: i64) -> bool
-    ensures { IsTrue result ↔ IsFitDeclared (declared.Range lo hi) }
-{
-    if lo <= hi && is_modest(lo) && is_modest(hi) {
-        is_narrow(lo, hi)
+    let declared = declared_of(alloc, &variable.element)?;
+    if is_small_declared(&declared) {
+        Ok(declared)
     } else {
-        false
+        Err(ResolveError::NotBuilt)
     }
 }
 
-fn is_modest(value: i64) -> bool
-    ensures { IsTrue result ↔ IsModest value }
-{
-    -1_000_000 <= value && value <= 1_000_000
-}
-
-fn is_narrow(lo: i64, hi: i64) -> bool
-    requires order { lo ≤ℤ hi }
-    requires low { IsModest lo }
-    requires high { IsModest hi }
-    ensures { IsTrue result ↔ (count_of lo hi ≤ 4096) }
-{
-    hi - lo < 4096
-}
-
-fn range_of(element: &VariableType) -> Option<(i64, i64)>
-    ensures { MatchOption result (is_range element.now ≡ false) (IsRangeOf element.now) }
+/// What the values of the type stand for.
+pub(crate) fn form_of(element: &VariableType) -> Form
+    ensures { result ≡ form_of element.now }
 {
     match element {
-        VariableType::Bool => None,
-        VariableType::Plain(Element::Int) => None,
-        VariableType::Plain(Element::Float) => None,
-        VariableType::Plain(Element::Range(bounds)) => ends_of(bounds),
-        VariableType::Plain(Element::Set(_)) => None,
-        VariableType::SetOf(_) => None,
+        VariableType::Bool => Form::Bool,
+        VariableType::Plain(_) => Form::Int,
+        VariableType::SetOf(_) => Form::Int,
     }
 }
 
-fn ends_of(bounds: &Bounds) -> Option<(i64, i64)>
-    ensures { MatchOption result (is_range (types.Plain (elements.Range bounds.now)) ≡ false) (IsRangeOf (types.Plain (elements.Range bounds.now))) }
+fn base_of(form: Form) -> Base
+    ensures { result ≡ base_of form }
 {
-    match (&bounds.lower, &bounds.upper) {
-        (Number::Int(lo), Number::Int(hi)) => Some((*lo, *hi)),
-        (Number::Float(_), _) => None,
-        (Number::Int(_), Number::Float(_)) => None,
+    match form {
+        Form::Bool => Base::Bool,
+        Form::Int => Base::Int,
     }
+}
+
+/// Whether the type is of truth values or of integers.
+pub(crate) fn is_built_type(element: &VariableType) -> bool
+    ensures { IsTrue result ↔ IsBuiltType element.now }
+{
+    base_of_variable(element) == base_of(form_of(element))
+}
+
+// The values that the type allows, as they are written.
+fn declared_of(alloc: Global, element: &VariableType) -> Result<Declared, AllocError>
+    ensures { IfOk result (λ d. d ≡ declared_of element.now) }
+{
+    match element {
+        VariableType::Bool => Ok(Declared::Any),
+        VariableType::Plain(element) => declared_element(alloc, element),
+        VariableType::SetOf(_) => Ok(Declared::Any),
+    }
+}
+
+fn declared_element(alloc: Global, element: &Element) -> Result<Declared, AllocError>
+    ensures { IfOk result (λ d. d ≡ declared_element element.now) }
+{
+    match element {
+        Element::Int => Ok(Declared::Any),
+        Element::Float => Ok(Declared::Any),
+        Element::Range(bounds) => Ok(Declared::Range {
+            lo: integer_of(&bounds.lower),
+            hi: integer_of(&bounds.upper),
+        }),
+        Element::Set(numbers) => Ok(Declared::Values(integers_of(alloc, numbers.as_slice())?)),
+    }
+}
+
+fn integers_of(alloc: Global, numbers: &[Number]) -> Result<Values, AllocError>
+    ensures { IfOk result (λ v. v ≡ map integer_of numbers.now) }
+{
+    let mut integers = Vec::with_capacity(alloc, numbers.len())?;
+    for number in numbers {
+        integers.push(integer_of(number))?;
+    }
+    Ok(Values::from_vec(integers))
+}
+
+fn integer_of(number: &Number) -> i64
+    ensures { result ≡ integer_of number.now }
+{
+    match number {
+        Number::Int(value) => *value,
+        Number::Float(_) => 0,
+    }
+}
+
+// Whether the declared integers lie within plus and minus 2^62.
+fn is_small_declared(declared: &Declared) -> bool
+    ensures { IsTrue result ↔ IsSmallDeclared declared.now }
+{
+    match declared {
+        Declared::Any => true,
+        Declared::Range { lo, hi } => is_small(*lo) && is_small(*hi),
+        Declared::Values(values) => are_small(values.as_slice()),
+    }
+}
+
+fn are_small(values: &[i64]) -> bool
+    ensures { IsTrue result ↔ AreSmallIntegers values.now }
+{
+    are_all_small(values)
+}
+
+fn are_all_small(values: &[i64]) -> bool
+    ensures { IsTrue result ↔ All IsSmall values.now }
+{
+    values.iter().all(|value| is_small(*value))
+}
+
+fn is_small(value: i64) -> bool
+    ensures { IsTrue result ↔ IsSmall value }
+{
+    -(1 << 62) <= value && value <= 1 << 62
 }

@@ -34,7 +34,10 @@ fn the_most_variables_are_solved(rt: HostRuntime) -> Result<(), Fail> {
     assert!(rt; out.as_slice() == printed.as_bytes());
     assert_eq!(rt; err.as_slice(), b"".as_slice());
     let more = fixed_variables(alloc, 4_097)?;
-    let fault = ModelFault::Lower(ModelError::NotBuilt);
+    let fault = ModelFault::Lower(ModelError::TooMany {
+        what: Counted::Free,
+        count: 4_097,
+    });
     assert!(rt; refuses(&rt, "solve", more.as_bytes(), fault)?);
     Ok(())
 }

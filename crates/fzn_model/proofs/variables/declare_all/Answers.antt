@@ -1,14 +1,18 @@
-use Rattle.std.proofs.Common.{◌≡◌, ◌∙◌, ap, sym, length, arith}
-use Rattle.first_model.specs.Problem.{Problem}
-use Rattle.fzn_model.specs.Declaring.{with_declaration}
-use Rattle.fzn_model.proofs.Declaring.{built_more, problem_more, number_bounded}
+use Rattle.std.proofs.Common.{◌∙◌, ◌++◌, ap, sym, length, take, arith}
+use Rattle.dom_model.specs.Draft.{Draft}
+use Rattle.fzn_model.proofs.Declaring.{built_more, draft_more, count_within, variables_counted}
+use Rattle.fzn_model.specs.Variables.{variables_by}
 use Rattle.fzn_model.proofs.variables.declare_all.Goals as goal
 
 pub declare_one-requires-clause-room : goal.declare_one-requires-clause-room
 declare_one-requires-clause-room c =
     let so_far = c.loop-declaration.invariant in
-    let count = ap (λ (p : Problem). length p.variables) so_far.model_is in
-    omega (arith, count, number_bounded c.args.declarations.now c.loop-declaration.declaration-index, so_far.few)
+    let ds = c.args.declarations.now in
+    let i = c.loop-declaration.declaration-index in
+    let count = ap (λ (p : Draft). length p.variables) so_far.draft_is in
+    let counted = variables_counted (take i ds) in
+    let within = count_within ds i c.declaration-item.result c.loop-declaration-test.true c.declaration-item.is in
+    omega (arith, count, counted, within, so_far.few)
 
 pub loop-declaration-preserved : goal.loop-declaration-preserved
 loop-declaration-preserved c =
@@ -22,5 +26,5 @@ loop-declaration-preserved c =
     record {
       few = so_far.few;
       built = built_more ds i d within is so_far.built added.0;
-      model_is = added.1 ∙ ap (λ (p : Problem). with_declaration p d) so_far.model_is ∙ sym (problem_more ds i d within is);
+      draft_is = added.1 ∙ ap (λ (p : Draft). record p { variables = p.variables ++ variables_by d }) so_far.draft_is ∙ sym (draft_more ds i d within is);
     }

@@ -1,12 +1,12 @@
--- The declarations so far are built, and the model is theirs.
-use Rattle.std.proofs.Common.{◌≡◌, ◌≤◌, length, take, All}
-use Rattle.fzn_model.specs.Declarations.{IsBuilt, variables_of}
-use Rattle.fzn_model.specs.Declaring.{declared_problem}
+-- The declarations so far are built, and their variables put together.
+use Rattle.std.proofs.Common.{◌≡◌, ◌≤◌, take, All}
+use Rattle.fzn_limits.specs.Sizes.{limit, variables_in}
+use Rattle.fzn_model.specs.Variables.{declared_draft, IsBuilt}
 use Rattle.fzn_model.proofs.variables.declare_all.Given as goal
 
 abbrev pub invariant-loop-declaration : goal.invariant-loop-declaration
 invariant-loop-declaration l = record {
-  few : length (variables_of l.declarations) ≤ 4096;
+  few : variables_in l.declarations ≤ limit;
   built : All IsBuilt (take l.declaration-index l.declarations);
-  model_is : l.builder ≡ declared_problem (take l.declaration-index l.declarations);
+  draft_is : l.builder ≡ declared_draft (take l.declaration-index l.declarations);
 }

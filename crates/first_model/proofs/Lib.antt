@@ -1,4 +1,0 @@
-pub mod Allowed
-pub mod Keys
-pub mod Order
-mod Products

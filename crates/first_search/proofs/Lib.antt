@@ -1,4 +1,0 @@
-mod Allowed
-mod Progress
-mod Tuples
-mod Places
