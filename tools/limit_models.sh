@@ -19,7 +19,7 @@ cp most_variables.fzn most_variables.shown
 
 # one variable more
 { echo "var 0..0: x0;"; cat most_variables.fzn; } >too_many_variables_to_solve.fzn
-echo "dombreak: model refused: not built" >too_many_variables_to_solve.err
+echo "dombreak: model refused: too many free variables: 4097" >too_many_variables_to_solve.err
 echo 2 >too_many_variables_to_solve.status
 
 # constraints NUMBER: a model with so many
