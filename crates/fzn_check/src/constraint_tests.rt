@@ -68,97 +68,98 @@ fn fault(alloc: Global, constraints: &str) -> Result<Option<(bool, u64)>, Fail> 
     Ok(placed(found))
 }
 
-// One of each name.
-const RIGHT: [&str; 47] = [
-    "array_bool_and([b,true],r)",
-    "array_bool_element(x,bs,b)",
-    "array_bool_or(ps,r)",
-    "array_int_element(x,cs,y)",
-    "bool2int(b,x)",
-    "bool_and(b,t,r)",
-    "bool_clause(ps,bs)",
-    "bool_clause_reif([],[b],r)",
-    "bool_eq(b,true)",
-    "bool_eq_reif(b,r,false)",
-    "bool_le(b,r)",
-    "bool_le_reif(b,r,t)",
-    "bool_lt(b,r)",
-    "bool_lt_reif(b,r,t)",
-    "bool_not(b,r)",
-    "bool_or(b,b,r)",
-    "bool_xor(b,t,r)",
-    "fzn_all_different_int(xs)",
-    "fzn_among(x,cs,{1,2})",
-    "fzn_at_least_int(k,xs,2)",
-    "fzn_at_most_int(1,[x,y],l)",
-    "fzn_count_eq(xs,k,y)",
-    "fzn_global_cardinality([x],cs,xs)",
-    "fzn_global_cardinality([x],[l,4],[y,x])",
-    "fzn_global_cardinality([x],es,xs)",
-    "int_abs(x,y)",
-    "int_eq(x,k)",
-    "int_eq_reif(x,3,r)",
-    "int_le(x,y)",
-    "int_le_reif(x,y,true)",
-    "int_lin_eq(cs,xs,3)",
-    "int_lin_eq_reif([1,k],xs,l,r)",
-    "int_lin_le(ds,[x,y],k)",
-    "int_lin_le_reif([],[],0,r)",
-    "int_lin_ne([k],[x],1)",
-    "int_lin_ne_reif(twice,cs,1,r)",
-    "int_lt(x,y)",
-    "int_lt_reif(1,2,r)",
-    "int_max(x,y,k)",
-    "int_min(x,y,k)",
-    "int_ne(x,y)",
-    "int_ne_reif(x,y,r)",
-    "int_plus(x,y,k)",
-    "int_times(x,y,k)",
-    "set_in(x,s)",
-    "set_in(x,1..3)",
-    "set_in_reif(x,{},r)",
+// One constraint of each name, and constraints at fault: whether it is a float or a set variable, and the byte of the name.
+const CONSTRAINTS: [(&str, Option<(bool, u64)>); 77] = [
+    ("array_bool_and([b,true],r)", None),
+    ("array_bool_element(x,bs,b)", None),
+    ("array_bool_or(ps,r)", None),
+    ("array_int_element(x,cs,y)", None),
+    ("bool2int(b,x)", None),
+    ("bool_and(b,t,r)", None),
+    ("bool_clause(ps,bs)", None),
+    ("bool_clause_reif([],[b],r)", None),
+    ("bool_eq(b,true)", None),
+    ("bool_eq_reif(b,r,false)", None),
+    ("bool_le(b,r)", None),
+    ("bool_le_reif(b,r,t)", None),
+    ("bool_lt(b,r)", None),
+    ("bool_lt_reif(b,r,t)", None),
+    ("bool_not(b,r)", None),
+    ("bool_or(b,b,r)", None),
+    ("bool_xor(b,t,r)", None),
+    ("fzn_all_different_int(xs)", None),
+    ("fzn_among(x,cs,{1,2})", None),
+    ("fzn_at_least_int(k,xs,2)", None),
+    ("fzn_at_most_int(1,[x,y],l)", None),
+    ("fzn_count_eq(xs,k,y)", None),
+    ("fzn_global_cardinality([x],cs,xs)", None),
+    ("fzn_global_cardinality([x],[l,4],[y,x])", None),
+    ("fzn_global_cardinality([x],es,xs)", None),
+    ("int_abs(x,y)", None),
+    ("int_eq(x,k)", None),
+    ("int_eq_reif(x,3,r)", None),
+    ("int_le(x,y)", None),
+    ("int_le_reif(x,y,true)", None),
+    ("int_lin_eq(cs,xs,3)", None),
+    ("int_lin_eq_reif([1,k],xs,l,r)", None),
+    ("int_lin_le(ds,[x,y],k)", None),
+    ("int_lin_le_reif([],[],0,r)", None),
+    ("int_lin_ne([k],[x],1)", None),
+    ("int_lin_ne_reif(twice,cs,1,r)", None),
+    ("int_lt(x,y)", None),
+    ("int_lt_reif(1,2,r)", None),
+    ("int_max(x,y,k)", None),
+    ("int_min(x,y,k)", None),
+    ("int_ne(x,y)", None),
+    ("int_ne_reif(x,y,r)", None),
+    ("int_plus(x,y,k)", None),
+    ("int_times(x,y,k)", None),
+    ("set_in(x,s)", None),
+    ("set_in(x,1..3)", None),
+    ("set_in_reif(x,{},r)", None),
+    ("int_eq(x)", Some((false, 11))),
+    ("int_eq(x,y,x)", Some((false, 11))),
+    ("int_eq(x,b)", Some((false, 11))),
+    ("int_eq(x,true)", Some((false, 11))),
+    ("int_eq(x,xs)", Some((false, 11))),
+    ("int_eq(x,[y])", Some((false, 11))),
+    ("bool_eq(b,1)", Some((false, 11))),
+    ("set_in(x,3)", Some((false, 11))),
+    ("array_int_element(x,xs,y)", Some((false, 11))),
+    ("array_int_element(x,[x,1],y)", Some((false, 11))),
+    ("array_bool_element(x,ps,b)", Some((false, 11))),
+    ("array_bool_or(xs,r)", Some((false, 11))),
+    ("fzn_all_different_int(ps)", Some((false, 11))),
+    ("fzn_count_eq(xs,x,y)", Some((false, 11))),
+    ("int_lin_le(cs,three,1)", Some((false, 11))),
+    ("int_lin_le([1],xs,1)", Some((false, 11))),
+    ("int_lin_le_reif([1,2,3],xs,1,r)", Some((false, 11))),
+    ("fzn_global_cardinality([x],[3,k],xs)", Some((false, 11))),
+    ("fzn_global_cardinality([x],twice,xs)", Some((false, 11))),
+    ("fzn_global_cardinality([x],near,xs)", Some((false, 11))),
+    ("fzn_global_cardinality([x],far,xs)", Some((false, 11))),
+    ("fzn_global_cardinality([x],cs,three)", Some((false, 11))),
+    ("int_eq(x,1.5)", Some((true, 11))),
+    ("int_eq(x,f)", Some((true, 11))),
+    ("set_in(x,v)", Some((true, 11))),
+    ("set_in(x,1..2.5)", Some((true, 11))),
+    ("int_eq(1.5)", Some((true, 11))),
+    ("fzn_all_different_int([x,f])", Some((true, 11))),
+    (
+        "int_eq(x,y);\nconstraint int_eq(x);\nconstraint int_eq(f,x)",
+        Some((false, 35)),
+    ),
+    ("int_eq(f,x);\nconstraint int_eq(x)", Some((true, 11))),
 ];
 
 #[test]
-fn right_arguments_are_fine(rt: HostRuntime) -> Result<(), Fail> {
-    for constraint in RIGHT {
-        let text = format!(in rt.alloc(); "constraint {constraint};\n")?;
-        assert!(rt; fault(rt.alloc(), text.as_str())?.is_none(), "{constraint}");
-    }
-    Ok(())
-}
-
-const WRONG: [&str; 22] = [
-    "int_eq(x)",
-    "int_eq(x,y,x)",
-    "int_eq(x,b)",
-    "int_eq(x,true)",
-    "int_eq(x,xs)",
-    "int_eq(x,[y])",
-    "bool_eq(b,1)",
-    "set_in(x,3)",
-    "array_int_element(x,xs,y)",
-    "array_int_element(x,[x,1],y)",
-    "array_bool_element(x,ps,b)",
-    "array_bool_or(xs,r)",
-    "fzn_all_different_int(ps)",
-    "fzn_count_eq(xs,x,y)",
-    "int_lin_le(cs,three,1)",
-    "int_lin_le([1],xs,1)",
-    "int_lin_le_reif([1,2,3],xs,1,r)",
-    "fzn_global_cardinality([x],[3,k],xs)",
-    "fzn_global_cardinality([x],twice,xs)",
-    "fzn_global_cardinality([x],near,xs)",
-    "fzn_global_cardinality([x],far,xs)",
-    "fzn_global_cardinality([x],cs,three)",
-];
-
-#[test]
-fn wrong_arguments_are_told_at_the_name(rt: HostRuntime) -> Result<(), Fail> {
-    for constraint in WRONG {
+fn the_first_constraint_at_fault_is_told(rt: HostRuntime) -> Result<(), Fail> {
+    constraints_have_one_first_fault();
+    assert!(rt; fault(rt.alloc(), "")?.is_none(), "nothing");
+    for (constraint, expected) in CONSTRAINTS {
         let text = format!(in rt.alloc(); "constraint {constraint};\n")?;
         assert!(rt;
-            fault(rt.alloc(), text.as_str())? == Some((false, 11)),
+            fault(rt.alloc(), text.as_str())? == expected,
             "{constraint}"
         );
     }
@@ -198,44 +199,6 @@ fn many_constraints_name_one_long_list(rt: HostRuntime) -> Result<(), Fail> {
         let text = long_text(rt.alloc(), last)?;
         assert!(rt; is_fine(rt.alloc(), text.as_str())? == fine, "{last}");
     }
-    Ok(())
-}
-
-const FLOATS: [&str; 6] = [
-    "int_eq(x,1.5)",
-    "int_eq(x,f)",
-    "set_in(x,v)",
-    "set_in(x,1..2.5)",
-    "int_eq(1.5)",
-    "fzn_all_different_int([x,f])",
-];
-
-#[test]
-fn floats_and_set_variables_are_told(rt: HostRuntime) -> Result<(), Fail> {
-    for constraint in FLOATS {
-        let text = format!(in rt.alloc(); "constraint {constraint};\n")?;
-        assert!(rt;
-            fault(rt.alloc(), text.as_str())? == Some((true, 11)),
-            "{constraint}"
-        );
-    }
-    Ok(())
-}
-
-#[test]
-fn the_first_fault_is_told(rt: HostRuntime) -> Result<(), Fail> {
-    constraints_have_one_first_fault();
-    let wrong_first = "constraint int_eq(x,y);\nconstraint int_eq(x);\nconstraint int_eq(f,x);\n";
-    assert!(rt;
-        fault(rt.alloc(), wrong_first)? == Some((false, 35)),
-        "the second"
-    );
-    let float_first = "constraint int_eq(f,x);\nconstraint int_eq(x);\n";
-    assert!(rt;
-        fault(rt.alloc(), float_first)? == Some((true, 11)),
-        "the float"
-    );
-    assert!(rt; fault(rt.alloc(), "")?.is_none(), "nothing");
     Ok(())
 }
 
