@@ -39,7 +39,8 @@ fn add_domain(
 ) -> Result<(), DomainFault>
     requires { AreSmallEnds variable.now.declared }
     ensures none { OnOk result (HasNoFault definer variable.now var) }
-    ensures added { OnOk result (domains.new.items ≡ domains.old.items ++ with_free definer (values_of variable.now) []) }
+    ensures added { OnOk result (domains.new.items ≡ domains.old.items
+        ++ with_free definer (values_of variable.now) []) }
     ensures domain { OnOk result (AreDomains (with_free definer (values_of variable.now) [])) }
     ensures fault { IfErr result (IsMemoryOr (IsFaultBy definer variable.now var)) }
 {

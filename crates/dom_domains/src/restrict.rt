@@ -18,7 +18,8 @@ pub fn restrictions_of(
 ) -> Result<(), AllocError>
     requires few { length variables.now ≤ 4294967295 }
     requires whole { length definers.now ≡ length variables.now }
-    ensures added { OnOk result (AddsRestrictions variables.now definers.now constraints.old.items constraints.new.items) }
+    ensures added { OnOk result (AddsRestrictions variables.now definers.now
+        constraints.old.items constraints.new.items) }
     ensures front { BeginsWith constraints.old.items constraints.new.items }
 {
     for (number, variable) in variables.iter().enumerate() {

@@ -20,7 +20,8 @@ pub(crate) fn write_array(
     text: &mut Vec<u8>,
 ) -> Result<(), NoMemory>
     requires { AreFitArgs (length assignment.now) entries.now }
-    ensures { OnOk result (text.new.items ≡ text.old.items ++ array_text_of assignment.now name.now form sets.now entries.now) }
+    ensures { OnOk result (text.new.items ≡ text.old.items
+        ++ array_text_of assignment.now name.now form sets.now entries.now) }
 {
     text.extend_from_slice(name)?;
     write_dimensions(sets.len(), text)?;
@@ -31,7 +32,8 @@ pub(crate) fn write_array(
 }
 
 fn write_dimensions(count: usize, text: &mut Vec<u8>) -> Result<(), NoMemory>
-    ensures { OnOk result (text.new.items ≡ text.old.items ++ (codes " = array" ++ decimal count ++ codes "d(")) }
+    ensures { OnOk result (text.new.items ≡ text.old.items
+        ++ (codes " = array" ++ decimal count ++ codes "d(")) }
 {
     text.extend_from_slice(b" = array")?;
     write_count(count, text)?;
@@ -63,7 +65,8 @@ fn write_entries(
     text: &mut Vec<u8>,
 ) -> Result<(), NoMemory>
     requires { AreFitArgs (length assignment.now) entries.now }
-    ensures { OnOk result (text.new.items ≡ text.old.items ++ entries_text_of assignment.now form entries.now) }
+    ensures { OnOk result (text.new.items ≡ text.old.items
+        ++ entries_text_of assignment.now form entries.now) }
 {
     match entries.split_first() {
         None => Ok(()),
@@ -82,7 +85,8 @@ fn write_more(
     text: &mut Vec<u8>,
 ) -> Result<(), NoMemory>
     requires { AreFitArgs (length assignment.now) entries.now }
-    ensures { OnOk result (text.new.items ≡ text.old.items ++ more_entries_of assignment.now form entries.now) }
+    ensures { OnOk result (text.new.items ≡ text.old.items
+        ++ more_entries_of assignment.now form entries.now) }
 {
     for entry in entries {
         text.extend_from_slice(b", ")?;

@@ -30,7 +30,9 @@ fn value_of(truth: bool) -> i64
 }
 
 fn constant_of(values: &Constants<'_>, form: Form, basic: &Basic) -> Option<i64>
-    ensures { MatchOption result ((z : ℤ) → HasValue values.now form basic.now z → ⊥) (HasValue values.now form basic.now) }
+    ensures { MatchOption result
+        ((z : ℤ) → HasValue values.now form basic.now z → ⊥)
+        (HasValue values.now form basic.now) }
 {
     match form {
         Form::Bool => match values.truth_of(basic) {
@@ -43,7 +45,9 @@ fn constant_of(values: &Constants<'_>, form: Form, basic: &Basic) -> Option<i64>
 
 fn variable_of(values: &Constants<'_>, numbers: &[u32], form: Form, basic: &Basic) -> Option<VarId>
     requires { AreNumbers values.now numbers.now }
-    ensures { MatchOption result ((x : VarId) → NamesVariable values.now form basic.now x → ⊥) (NamesVariable values.now form basic.now) }
+    ensures { MatchOption result
+        ((x : VarId) → NamesVariable values.now form basic.now x → ⊥)
+        (NamesVariable values.now form basic.now) }
 {
     match basic {
         Basic::True => None,
@@ -58,7 +62,9 @@ fn variable_of(values: &Constants<'_>, numbers: &[u32], form: Form, basic: &Basi
 /// The constant or the variable that a literal or name stands for.
 pub fn arg_of(values: &Constants<'_>, numbers: &[u32], form: Form, basic: &Basic) -> Option<Arg>
     requires { AreNumbers values.now numbers.now }
-    ensures { MatchOption result ((x : Arg) → IsArg values.now form basic.now x → ⊥) (IsArg values.now form basic.now) }
+    ensures { MatchOption result
+        ((x : Arg) → IsArg values.now form basic.now x → ⊥)
+        (IsArg values.now form basic.now) }
 {
     match constant_of(values, form, basic) {
         Some(value) => Some(Arg::Const(value)),
@@ -77,7 +83,9 @@ pub fn scalar_arg(
     expression: &Expression,
 ) -> Option<Arg>
     requires { AreNumbers values.now numbers.now }
-    ensures { MatchOption result ((x : Arg) → IsScalarArg values.now form expression.now x → ⊥) (IsScalarArg values.now form expression.now) }
+    ensures { MatchOption result
+        ((x : Arg) → IsScalarArg values.now form expression.now x → ⊥)
+        (IsScalarArg values.now form expression.now) }
 {
     match expression {
         Expression::Basic(basic) => arg_of(values, numbers, form, basic),
@@ -94,7 +102,9 @@ pub fn args_in(
     basics: &[Basic],
 ) -> Result<Option<Vec<Arg>>, AllocError>
     requires { AreNumbers values.now numbers.now }
-    ensures { IfOk result (λ r. MatchOption r ((xs : List Arg) → AreArgs values.now form basics.now xs → ⊥) (λ v. AreArgs values.now form basics.now v.items)) }
+    ensures { IfOk result (λ r. MatchOption r
+        ((xs : List Arg) → AreArgs values.now form basics.now xs → ⊥)
+        (λ v. AreArgs values.now form basics.now v.items)) }
 {
     let mut args = Vec::new(alloc);
     for basic in basics {
@@ -115,7 +125,9 @@ pub fn args_of(
     expression: &Expression,
 ) -> Result<Option<Vec<Arg>>, AllocError>
     requires { AreNumbers values.now numbers.now }
-    ensures { IfOk result (λ r. MatchOption r ((xs : List Arg) → AreArgsOf values.now form expression.now xs → ⊥) (λ v. AreArgsOf values.now form expression.now v.items)) }
+    ensures { IfOk result (λ r. MatchOption r
+        ((xs : List Arg) → AreArgsOf values.now form expression.now xs → ⊥)
+        (λ v. AreArgsOf values.now form expression.now v.items)) }
 {
     one_list();
     let _names_are_different = values.scope().declarations();

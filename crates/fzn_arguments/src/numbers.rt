@@ -61,7 +61,9 @@ fn is_of_form(form: Form, declaration: &Declaration) -> bool
 /// The variable of this name, where it is of this form.
 pub fn variable_named(scope: &Scope<'_>, numbers: &[u32], form: Form, name: &[u8]) -> Option<VarId>
     requires { AreNumbers scope.now numbers.now }
-    ensures { MatchOption result ((x : VarId) → IsNumbered scope.now form name.now x → ⊥) (IsNumbered scope.now form name.now) }
+    ensures { MatchOption result
+        ((x : VarId) → IsNumbered scope.now form name.now x → ⊥)
+        (IsNumbered scope.now form name.now) }
 {
     // A name is that of one declaration.
     let declarations = scope.declarations();

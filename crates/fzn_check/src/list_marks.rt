@@ -10,7 +10,8 @@ use fzn_values::{Constants, LiteralKind, is_literal, value_for};
 use std::alloc::{AllocError, Global};
 
 fn own_list(declaration: &Declaration) -> Option<&Expression>
-    ensures { MatchOption result (HasNoList declaration.now) (λ l. value_for literals.List declaration.now ≡ Some l.now) }
+    ensures { MatchOption result (HasNoList declaration.now)
+        (λ l. value_for literals.List declaration.now ≡ Some l.now) }
 {
     match value_for(LiteralKind::List, declaration) {
         None => None,

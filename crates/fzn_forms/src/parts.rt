@@ -7,7 +7,9 @@ use crate::argument::Argument;
 use dom_core::Arg;
 
 pub(crate) fn two(arguments: &[Argument]) -> Option<(Arg, Arg)>
-    ensures { MatchOption result ((x y : Arg) → AreTwo arguments.now x y → ⊥) (λ p. AreTwo arguments.now p.0 p.1) }
+    ensures { MatchOption result
+        ((x y : Arg) → AreTwo arguments.now x y → ⊥)
+        (λ p. AreTwo arguments.now p.0 p.1) }
 {
     match arguments {
         [Argument::Scalar(x), Argument::Scalar(y)] => Some((*x, *y)),
@@ -16,7 +18,9 @@ pub(crate) fn two(arguments: &[Argument]) -> Option<(Arg, Arg)>
 }
 
 pub(crate) fn three(arguments: &[Argument]) -> Option<(Arg, Arg, Arg)>
-    ensures { MatchOption result ((x y z : Arg) → AreThree arguments.now x y z → ⊥) (λ p. AreThree arguments.now p.0 p.1 p.2) }
+    ensures { MatchOption result
+        ((x y z : Arg) → AreThree arguments.now x y z → ⊥)
+        (λ p. AreThree arguments.now p.0 p.1 p.2) }
 {
     match arguments {
         [
@@ -29,7 +33,9 @@ pub(crate) fn three(arguments: &[Argument]) -> Option<(Arg, Arg, Arg)>
 }
 
 pub(crate) fn lists(arguments: &[Argument]) -> Option<(&[Arg], &[Arg])>
-    ensures { MatchOption result ((ps ns : List Arg) → AreLists arguments.now ps ns → ⊥) (λ p. AreLists arguments.now p.0.now p.1.now) }
+    ensures { MatchOption result
+        ((ps ns : List Arg) → AreLists arguments.now ps ns → ⊥)
+        (λ p. AreLists arguments.now p.0.now p.1.now) }
 {
     match arguments {
         [Argument::Array(ps), Argument::Array(ns)] => Some((ps.as_slice(), ns.as_slice())),
@@ -38,7 +44,9 @@ pub(crate) fn lists(arguments: &[Argument]) -> Option<(&[Arg], &[Arg])>
 }
 
 pub(crate) fn lists_giving(arguments: &[Argument]) -> Option<(&[Arg], &[Arg], Arg)>
-    ensures { MatchOption result ((ps ns : List Arg) (r : Arg) → AreListsGiving arguments.now ps ns r → ⊥) (λ p. AreListsGiving arguments.now p.0.now p.1.now p.2) }
+    ensures { MatchOption result
+        ((ps ns : List Arg) (r : Arg) → AreListsGiving arguments.now ps ns r → ⊥)
+        (λ p. AreListsGiving arguments.now p.0.now p.1.now p.2) }
 {
     match arguments {
         [
@@ -51,7 +59,9 @@ pub(crate) fn lists_giving(arguments: &[Argument]) -> Option<(&[Arg], &[Arg], Ar
 }
 
 pub(crate) fn list_giving(arguments: &[Argument]) -> Option<(&[Arg], Arg)>
-    ensures { MatchOption result ((ps : List Arg) (r : Arg) → IsListGiving arguments.now ps r → ⊥) (λ p. IsListGiving arguments.now p.0.now p.1) }
+    ensures { MatchOption result
+        ((ps : List Arg) (r : Arg) → IsListGiving arguments.now ps r → ⊥)
+        (λ p. IsListGiving arguments.now p.0.now p.1) }
 {
     match arguments {
         [Argument::Array(ps), Argument::Scalar(r)] => Some((ps.as_slice(), *r)),
@@ -66,7 +76,9 @@ fn have_one_length(coefs: &[i64], args: &[Arg]) -> bool
 }
 
 pub(crate) fn weighted(arguments: &[Argument]) -> Option<(&[i64], &[Arg], i64)>
-    ensures { MatchOption result ((cs : List ℤ) (xs : List Arg) (bound : ℤ) → AreWeighted arguments.now cs xs bound → ⊥) (λ p. AreWeighted arguments.now p.0.now p.1.now p.2) }
+    ensures { MatchOption result
+        ((cs : List ℤ) (xs : List Arg) (bound : ℤ) → AreWeighted arguments.now cs xs bound → ⊥)
+        (λ p. AreWeighted arguments.now p.0.now p.1.now p.2) }
 {
     match arguments {
         [
@@ -86,7 +98,9 @@ pub(crate) fn weighted(arguments: &[Argument]) -> Option<(&[i64], &[Arg], i64)>
 }
 
 pub(crate) fn weighted_giving(arguments: &[Argument]) -> Option<(&[i64], &[Arg], i64, Arg)>
-    ensures { MatchOption result ((cs : List ℤ) (xs : List Arg) (bound : ℤ) (r : Arg) → AreWeightedGiving arguments.now cs xs bound r → ⊥) (λ p. AreWeightedGiving arguments.now p.0.now p.1.now p.2 p.3) }
+    ensures { MatchOption result
+        ((cs : List ℤ) (xs : List Arg) (bound : ℤ) (r : Arg) → AreWeightedGiving arguments.now cs xs bound r → ⊥)
+        (λ p. AreWeightedGiving arguments.now p.0.now p.1.now p.2 p.3) }
 {
     match arguments {
         [

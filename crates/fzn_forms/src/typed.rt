@@ -14,7 +14,9 @@ use fzn_values::Constants;
 use std::alloc::{AllocError, Global};
 
 fn constant(values: &Constants<'_>, expression: &Expression) -> Option<i64>
-    ensures { MatchOption result ((z : ℤ) → IsConstant values.now expression.now z → ⊥) (IsConstant values.now expression.now) }
+    ensures { MatchOption result
+        ((z : ℤ) → IsConstant values.now expression.now z → ⊥)
+        (IsConstant values.now expression.now) }
 {
     match expression {
         Expression::Basic(basic) => values.int_of(basic),
@@ -23,7 +25,9 @@ fn constant(values: &Constants<'_>, expression: &Expression) -> Option<i64>
 }
 
 fn integer(values: &Constants<'_>, expression: &Expression) -> Option<Argument>
-    ensures { MatchOption result ((a : Argument) → IsInteger values.now expression.now a → ⊥) (IsInteger values.now expression.now) }
+    ensures { MatchOption result
+        ((a : Argument) → IsInteger values.now expression.now a → ⊥)
+        (IsInteger values.now expression.now) }
 {
     match constant(values, expression) {
         None => None,
@@ -36,7 +40,9 @@ fn integers(
     values: &Constants<'_>,
     expression: &Expression,
 ) -> Result<Option<Argument>, AllocError>
-    ensures { IfOk result (λ r. MatchOption r ((a : Argument) → AreIntegers values.now expression.now a → ⊥) (AreIntegers values.now expression.now)) }
+    ensures { IfOk result (λ r. MatchOption r
+        ((a : Argument) → AreIntegers values.now expression.now a → ⊥)
+        (AreIntegers values.now expression.now)) }
 {
     match values.ints_of(alloc, expression)? {
         None => Ok(None),
@@ -51,7 +57,9 @@ fn scalar(
     expression: &Expression,
 ) -> Option<Argument>
     requires { AreNumbers values.now numbers.now }
-    ensures { MatchOption result ((a : Argument) → IsScalar values.now form expression.now a → ⊥) (IsScalar values.now form expression.now) }
+    ensures { MatchOption result
+        ((a : Argument) → IsScalar values.now form expression.now a → ⊥)
+        (IsScalar values.now form expression.now) }
 {
     match scalar_arg(values, numbers, form, expression) {
         None => None,
@@ -67,7 +75,9 @@ fn array(
     expression: &Expression,
 ) -> Result<Option<Argument>, AllocError>
     requires { AreNumbers values.now numbers.now }
-    ensures { IfOk result (λ r. MatchOption r ((a : Argument) → IsArray values.now form expression.now a → ⊥) (IsArray values.now form expression.now)) }
+    ensures { IfOk result (λ r. MatchOption r
+        ((a : Argument) → IsArray values.now form expression.now a → ⊥)
+        (IsArray values.now form expression.now)) }
 {
     match args_of(alloc, values, numbers, form, expression)? {
         None => Ok(None),
@@ -84,7 +94,9 @@ fn read(
     expression: &Expression,
 ) -> Result<Option<Argument>, AllocError>
     requires { AreNumbers values.now numbers.now }
-    ensures { IfOk result (λ r. MatchOption r ((a : Argument) → IsReadAs values.now wanted expression.now a → ⊥) (IsReadAs values.now wanted expression.now)) }
+    ensures { IfOk result (λ r. MatchOption r
+        ((a : Argument) → IsReadAs values.now wanted expression.now a → ⊥)
+        (IsReadAs values.now wanted expression.now)) }
 {
     match wanted {
         ArgumentType::ConstantInteger => Ok(integer(values, expression)),
@@ -107,7 +119,9 @@ pub(crate) fn read_all(
     expressions: &[Expression],
 ) -> Result<Option<Vec<Argument>>, AllocError>
     requires { AreNumbers values.now numbers.now }
-    ensures { IfOk result (λ r. MatchOption r ((args : List Argument) → AreReadAs values.now wanted.now expressions.now args → ⊥) (λ v. AreReadAs values.now wanted.now expressions.now v.items)) }
+    ensures { IfOk result (λ r. MatchOption r
+        ((args : List Argument) → AreReadAs values.now wanted.now expressions.now args → ⊥)
+        (λ v. AreReadAs values.now wanted.now expressions.now v.items)) }
 {
     if wanted.len() != expressions.len() {
         return Ok(None);

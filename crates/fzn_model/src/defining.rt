@@ -54,7 +54,9 @@ fn defines_by(
 ) -> Option<VarId>
     requires numbers { AreNumbers scope.now numbers.now }
     requires whole { length defined.now ≡ variables_in scope.now }
-    ensures { MatchOption result ((x : VarIdOf) → DefinesBy scope.now defined.now name.now kind.now annotation.now x → ⊥) (DefinesBy scope.now defined.now name.now kind.now annotation.now) }
+    ensures { MatchOption result
+        ((x : VarIdOf) → DefinesBy scope.now defined.now name.now kind.now annotation.now x → ⊥)
+        (DefinesBy scope.now defined.now name.now kind.now annotation.now) }
 {
     match asked_name(annotation) {
         None => None,
@@ -79,7 +81,9 @@ fn defines_named(
 ) -> Option<VarId>
     requires numbers { AreNumbers scope.now numbers.now }
     requires whole { length defined.now ≡ variables_in scope.now }
-    ensures { MatchOption result ((x : VarIdOf) → DefinesNamed scope.now defined.now name.now kind.now asked.now form x → ⊥) (DefinesNamed scope.now defined.now name.now kind.now asked.now form) }
+    ensures { MatchOption result
+        ((x : VarIdOf) → DefinesNamed scope.now defined.now name.now kind.now asked.now form x → ⊥)
+        (DefinesNamed scope.now defined.now name.now kind.now asked.now form) }
 {
     let _names_are_different = scope.declarations();
     match variable_named(scope, numbers, form, asked) {
