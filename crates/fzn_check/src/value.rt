@@ -6,7 +6,8 @@ use fzn_syntax::{Declaration, Expression};
 
 /// What stands behind the equals sign.
 pub(crate) fn value_of(declaration: &Declaration) -> Option<&Expression>
-    ensures { MatchOption result (value_of declaration.now ≡ None) (λ e. value_of declaration.now ≡ Some e.now) }
+    ensures { MatchOption result (value_of declaration.now ≡ None)
+        (λ e. value_of declaration.now ≡ Some e.now) }
 {
     match declaration {
         Declaration::Parameter(parameter) => Some(&parameter.value),
