@@ -7,11 +7,11 @@ use Rattle.dom_cells.specs.declared.start.Start.{Start}
 use Rattle.kind_law.specs.Argument.{var_of}
 use Rattle.kind_sum.specs.SumRelation.{sum_vars, sum_size, SumFits, sum_met, sum_kept, sum_refuted}
 use Rattle.kind_linear.specs.LinearOutput.{relation_of, output_size, OutputFits, is_functional, inputs_of, InputsFit, output_given, output_range, output_own_change}
-use Rattle.kind_linear.specs.LinearReified.{reified_vars, reified_met, reified_kept, reified_refuted, is_giver, reified_given, reified_range, reified_own_change}
+use Rattle.kind_reified.specs.LinearReified.{reified_vars, reified_met, reified_kept, reified_refuted, is_giver, reified_given, reified_range, reified_own_change}
 use Rattle.kind_arith.specs.InSet.{restricted_vars, restriction_met, restriction_kept, restriction_refuted}
-use Rattle.kind_bool.specs.BoolClause.{clause_met, clause_kept, clause_refuted}
-use Rattle.kind_bool.specs.Connective.{connective_vars, connective_met, connective_kept, connective_refuted, defines_output, connective_inputs, connective_given, connective_range, connective_own_change}
-use Rattle.kind_bool.specs.Operand.{operand_vars}
+use Rattle.kind_truths.specs.BoolClause.{clause_met, clause_kept, clause_refuted}
+use Rattle.kind_truths.specs.Connective.{connective_vars, connective_met, connective_kept, connective_refuted, defines_output, connective_inputs, connective_given, connective_range, connective_own_change}
+use Rattle.kind_truths.specs.Operand.{operand_vars}
 use Rattle.kind_bool.specs.Xor.{xor_vars, xor_met, xor_kept, xor_refuted, gives_output, xor_inputs, xor_given, xor_range, xor_own_change}
 use Rattle.any_kind.specs.Never.{never_output, NeverFits, never_defined, never_given, never_ranged, never_own_change}
 use Rattle.any_kind.specs.declared.any.AnyKind.{AnyKind}

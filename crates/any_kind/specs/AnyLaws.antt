@@ -1,17 +1,24 @@
 -- The laws of any kind, each from that of the kind that stands there.
-use Rattle.std.specs.Prelude.{◌≡◌, true}
-use Rattle.kind_law.specs.Laws.{AreAmong, FitsLaw, WidthLaw, ShrinkLaw, FixedLaw, KeepLaw, StillLaw}
-use Rattle.kind_law.specs.DefineLaws.{ApartLaw, ArePartsOf, PassLaw, InputWidthLaw, ValueLaw, InputLaw, RangeLaw, MonotoneLaw, OwnChangeLaw, FixesLaw}
-use Rattle.kind_sum.specs.SumRelationLaws.{sum-fits, sum-width, sum-measured, sum-shrink, sum-fixed, sum-keep}
-use Rattle.kind_linear.specs.LinearOutputLaws.{output-fits, output-width, output-measured, output-shrink, output-fixed, output-keep, output-still, output-inputs, output-pass, output-input_width, output-measured_inputs, output-apart, output-parts, output-value, output-input, output-range, output-monotone, output-own_change, output-fixes}
-use Rattle.kind_linear.specs.LinearReifiedLaws.{reified-fits, reified-width, reified-measured, reified-shrink, reified-fixed, reified-keep, reified-still, reified-inputs, reified-pass, reified-input_width, reified-measured_inputs, reified-apart, reified-parts, reified-value, reified-input, reified-range, reified-monotone, reified-own_change, reified-fixes}
+use Rattle.std.specs.Prelude.{◌≡◌, true, []}
+use Rattle.kind_law.specs.Laws.{AreAmong, FitsLaw, WidthLaw, SizeLaw, ShrinkLaw, FixedLaw, KeepLaw, StillLaw}
+use Rattle.kind_law.specs.DefineLaws.{ApartLaw, ArePartsOf, PassLaw, InputWidthLaw, ValueLaw, InputLaw, DefinedLaw, RangeLaw, MonotoneLaw, OwnChangeLaw, FixesLaw}
+use Rattle.kind_law.specs.TotalLaws.{no_size, total_defined}
+use Rattle.kind_sum.specs.SumRelation.{sum_vars}
+use Rattle.kind_linear.specs.LinearOutput.{inputs_of}
+use Rattle.kind_arith.specs.InSet.{restricted_vars}
+use Rattle.kind_truths.specs.Operand.{operand_vars}
+use Rattle.kind_truths.specs.Connective.{connective_inputs}
+use Rattle.kind_bool.specs.Xor.{xor_inputs}
+use Rattle.kind_sum.specs.SumRelationLaws.{sum-fits, sum-width, sum-measured, sum-size, sum-shrink, sum-fixed, sum-keep}
+use Rattle.kind_linear.specs.LinearOutputLaws.{output-fits, output-width, output-measured, output-size, output-shrink, output-fixed, output-keep, output-still, output-inputs, output-pass, output-input_width, output-measured_inputs, output-apart, output-parts, output-value, output-input, output-range, output-monotone, output-own_change, output-fixes}
+use Rattle.kind_reified.specs.LinearReifiedLaws.{reified-fits, reified-width, reified-measured, reified-shrink, reified-fixed, reified-keep, reified-still, reified-inputs, reified-pass, reified-input_width, reified-measured_inputs, reified-apart, reified-parts, reified-value, reified-input, reified-range, reified-monotone, reified-own_change, reified-fixes}
 use Rattle.kind_sum.specs.SumRelationStill.{sum-still}
 use Rattle.kind_arith.specs.InSetLaws.{restriction-fits, restriction-width, restriction-measured, restriction-shrink, restriction-fixed, restriction-keep, restriction-still}
-use Rattle.kind_bool.specs.BoolClauseLaws.{clause-fits, clause-width, clause-measured, clause-shrink, clause-fixed, clause-keep, clause-still}
-use Rattle.kind_bool.specs.ConnectiveLaws.{connective-fits, connective-width, connective-measured, connective-shrink, connective-fixed, connective-keep, connective-still, connective-inputs, connective-pass, connective-input_width, connective-measured_inputs, connective-apart, connective-parts, connective-value, connective-input, connective-range, connective-monotone, connective-own_change, connective-fixes}
-use Rattle.kind_bool.specs.XorLaws.{xor-fits, xor-width, xor-measured, xor-shrink, xor-fixed, xor-keep, xor-still, xor-inputs, xor-pass, xor-input_width, xor-measured_inputs, xor-apart, xor-parts, xor-value, xor-input, xor-range, xor-monotone, xor-own_change, xor-fixes}
+use Rattle.kind_truths.specs.BoolClauseLaws.{clause-fits, clause-width, clause-measured, clause-shrink, clause-fixed, clause-keep, clause-still}
+use Rattle.kind_truths.specs.ConnectiveLaws.{connective-fits, connective-width, connective-measured, connective-shrink, connective-fixed, connective-keep, connective-still, connective-inputs, connective-pass, connective-input_width, connective-measured_inputs, connective-among, connective-apart, connective-parts, connective-value, connective-input, connective-range, connective-monotone, connective-own_change, connective-fixes}
+use Rattle.kind_bool.specs.XorLaws.{xor-fits, xor-width, xor-measured, xor-shrink, xor-fixed, xor-keep, xor-still, xor-inputs, xor-pass, xor-input_width, xor-measured_inputs, xor-among, xor-apart, xor-parts, xor-value, xor-input, xor-range, xor-monotone, xor-own_change, xor-fixes}
 use Rattle.any_kind.specs.Any.{any_vars, any_inside, any_measured, any_size, AnyFits, any_met, any_kept, any_refuted, any_functional, any_output, any_inputs, AnyInputsFit, any_defined, any_given, any_ranged, any_own_change}
-use Rattle.any_kind.specs.Never.{never, never-inputs, never-input, never-range, never-monotone, never-own_change}
+use Rattle.any_kind.specs.Never.{never, never-inputs, never-among, never-input, never-range, never-monotone, never-own_change}
 use Rattle.any_kind.specs.declared.any.AnyKind.{AnyKind}
 use Rattle.any_kind.specs.declared.any.AnyKind.TheVariants.{Linear, LinearOutput, LinearReified, InSet, BoolClause, BoolClauseReified, And, Or, Xor}
 
@@ -49,6 +56,17 @@ any-measured (BoolClauseReified k) = connective-measured k
 any-measured (And k) = connective-measured k
 any-measured (Or k) = connective-measured k
 any-measured (Xor k) = xor-measured k
+
+pub any-size : (k : AnyKind) → SizeLaw (any_measured k) (any_size k)
+any-size (Linear k) = sum-size k
+any-size (LinearOutput k) = output-size k
+any-size (LinearReified k) = sum-size k.sum
+any-size (InSet k) = no_size
+any-size (BoolClause k) = no_size
+any-size (BoolClauseReified k) = no_size
+any-size (And k) = no_size
+any-size (Or k) = no_size
+any-size (Xor k) = no_size
 
 pub any-shrink : (k : AnyKind) → ShrinkLaw (any_inside k) (any_vars k) (any_refuted k)
 any-shrink (Linear k) = sum-shrink k
@@ -140,6 +158,17 @@ any-measured_inputs (And k) = connective-measured_inputs k
 any-measured_inputs (Or k) = connective-measured_inputs k
 any-measured_inputs (Xor k) = xor-measured_inputs k
 
+pub any-among : (k : AnyKind) → AreAmong (any_inputs k) (any_vars k)
+any-among (Linear k) = never-among (sum_vars k)
+any-among (LinearOutput k) = output-measured k
+any-among (LinearReified k) = reified-measured k
+any-among (InSet k) = never-among (restricted_vars k)
+any-among (BoolClause k) = never-among (operand_vars k)
+any-among (BoolClauseReified k) = connective-among k
+any-among (And k) = connective-among k
+any-among (Or k) = connective-among k
+any-among (Xor k) = xor-among k
+
 pub any-apart : (k : AnyKind) → any_functional k ≡ true → ApartLaw (any_output k) (any_inputs k)
 any-apart (Linear k) = never _
 any-apart (LinearOutput k) = output-apart k
@@ -183,6 +212,17 @@ any-input (BoolClauseReified k) = connective-input k
 any-input (And k) = connective-input k
 any-input (Or k) = connective-input k
 any-input (Xor k) = xor-input k
+
+pub any-defined : (k : AnyKind) → DefinedLaw (any_inputs k) (any_defined k)
+any-defined (Linear k) = total_defined []
+any-defined (LinearOutput k) = total_defined (inputs_of k)
+any-defined (LinearReified k) = total_defined (sum_vars k.sum)
+any-defined (InSet k) = total_defined []
+any-defined (BoolClause k) = total_defined []
+any-defined (BoolClauseReified k) = total_defined (connective_inputs k)
+any-defined (And k) = total_defined (connective_inputs k)
+any-defined (Or k) = total_defined (connective_inputs k)
+any-defined (Xor k) = total_defined (xor_inputs k)
 
 pub any-range : (k : AnyKind) → RangeLaw (any_inputs k) (any_given k) (any_ranged k)
 any-range (Linear k) = never-range

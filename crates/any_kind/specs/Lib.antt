@@ -1,3 +1,4 @@
 pub mod Any
 pub mod AnyLaws
+pub mod Meets
 pub mod Never

@@ -4,7 +4,7 @@ use Rattle.std.proofs.lemmas.Int.{ints}
 use Rattle.dom_core.specs.Ends.{Ends, only}
 use Rattle.dom_core.specs.declared.var_id.VarId.{VarId}
 use Rattle.dom_core.specs.declared.view.Movement.{Movement}
-use Rattle.kind_law.specs.Laws.{FitsLaw}
+use Rattle.kind_law.specs.Laws.{AreAmong, FitsLaw}
 use Rattle.kind_law.specs.DefineLaws.{InputLaw, RangeLaw, MonotoneLaw, OwnChangeLaw}
 
 -- no variable is its output; the first one stands there
@@ -37,6 +37,9 @@ never P h = absurd (cc)
 
 pub never-inputs : FitsLaw [] NeverFits
 never-inputs small large within fits = tt
+
+pub never-among : (vars : List VarId) → AreAmong [] vars
+never-among vars = tt
 
 pub never-input : InputLaw [] never_given
 never-input a b same = refl

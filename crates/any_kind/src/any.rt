@@ -6,7 +6,8 @@ use dom_core::{Assignment, Clause, Interval, Intervals, Literal, VarId, View};
 use kind_arith::InSet;
 use kind_bool::{And, BoolClause, BoolClauseReified, Or, Xor};
 use kind_law::{Define, Kind, Propagate, Scratch, Visited};
-use kind_linear::{Linear, LinearOutput, LinearReified};
+use kind_linear::{Linear, LinearOutput};
+use kind_reified::LinearReified;
 use std::alloc::AllocError;
 
 /// A constraint of any kind.
@@ -59,7 +60,7 @@ macro_rules! define {
 
 impl Kind for AnyKind {
     ghost use Rattle.any_kind.specs.Any.{any_vars, any_inside, any_measured, any_size, AnyFits, any_met, any_kept, any_refuted};
-    ghost use Rattle.any_kind.specs.AnyLaws.{any-fits, any-width, any-measured, any-shrink, any-fixed, any-keep, any-still};
+    ghost use Rattle.any_kind.specs.AnyLaws.{any-fits, any-width, any-measured, any-size, any-shrink, any-fixed, any-keep, any-still};
 
     ghost vars = { any_vars };
 
@@ -107,6 +108,8 @@ impl Kind for AnyKind {
 
     ghost measured_law = { any-measured };
 
+    ghost size_law = { any-size };
+
     ghost shrink_law = { any-shrink };
 
     ghost fixed_law = { any-fixed };
@@ -142,7 +145,7 @@ impl Propagate for AnyKind {
 
 impl Define for AnyKind {
     ghost use Rattle.any_kind.specs.Any.{any_functional, any_output, any_inputs, AnyInputsFit, any_defined, any_given, any_ranged, any_own_change};
-    ghost use Rattle.any_kind.specs.AnyLaws.{any-inputs, any-pass, any-input_width, any-measured_inputs, any-apart, any-parts, any-value, any-input, any-range, any-monotone, any-own_change, any-fixes};
+    ghost use Rattle.any_kind.specs.AnyLaws.{any-inputs, any-pass, any-input_width, any-measured_inputs, any-among, any-apart, any-parts, any-value, any-input, any-defined, any-range, any-monotone, any-own_change, any-fixes};
 
     ghost functional = { any_functional };
 
@@ -196,6 +199,8 @@ impl Define for AnyKind {
 
     ghost measured_inputs_law = { any-measured_inputs };
 
+    ghost among_law = { any-among };
+
     ghost apart_law = { any-apart };
 
     ghost parts_law = { any-parts };
@@ -203,6 +208,8 @@ impl Define for AnyKind {
     ghost value_law = { any-value };
 
     ghost input_law = { any-input };
+
+    ghost defined_law = { any-defined };
 
     ghost range_law = { any-range };
 

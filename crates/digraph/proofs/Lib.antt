@@ -1,7 +1,7 @@
 mod DescentLaws
 mod GrownLaws
 mod MetLaws
-mod OrderLaws
+pub mod OrderLaws
 mod PathLaws
 mod Places
 mod RankLaws

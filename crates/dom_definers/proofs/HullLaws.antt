@@ -2,21 +2,15 @@
 use Rattle.std.proofs.Common.{◌≡◌, ℕ, ◌≤◌, ◌^◌, Bool, true, false, ◌&&◌, List, [], ◌∷◌, ◌≤ℤ◌, refl, sym, ◌∙◌, ap, subst, arith, Option, Some, None, if◌then◌else◌, nat_lt, int_le}
 use Rattle.std.proofs.lemmas.Int.{ints}
 use Rattle.any_kind.specs.Any.{any_functional, any_inputs, any_measured, any_size, any_ranged, any_defined, any_vars}
-use Rattle.any_kind.specs.AnyLaws.{any-measured, any-measured_inputs, any-monotone}
+use Rattle.any_kind.specs.AnyLaws.{any-among, any-defined, any-measured, any-measured_inputs, any-monotone, any-size}
 use Rattle.any_kind.specs.declared.any.AnyKind.{AnyKind}
-use Rattle.any_kind.specs.declared.any.AnyKind.TheVariants.{Linear, LinearOutput, LinearReified, InSet, BoolClause, BoolClauseReified, And, Or, Xor}
 use Rattle.dom_core.specs.Ends.{Ends, IsOrdered}
 use Rattle.dom_core.proofs.EndsLaws.{same_ends}
 use Rattle.dom_core.proofs.TestLaws.{and_first, and_second}
 use Rattle.dom_core.specs.declared.var_id.VarId.{VarId}
-use Rattle.kind_law.specs.Argument.{is_listed}
-use Rattle.kind_law.specs.Laws.{Each, AreAmong, AreSmall, AreWithin, EndsIn, small_ends}
-use Rattle.kind_law.proofs.ArgumentLaws.{each_listed, each_new_arg, listed}
+use Rattle.kind_law.specs.Laws.{Each, AreSmall, AreWithin, EndsIn, small_ends}
+use Rattle.kind_law.proofs.ArgumentLaws.{each_among}
 use Rattle.kind_law.proofs.EachLaws.{each_all, each_both, each_map}
-use Rattle.kind_law.specs.declared.argument.Reading.TheVariants.{Values}
-use Rattle.kind_linear.specs.LinearOutput.{rest_of}
-use Rattle.kind_sum.specs.Sum.{vars_of}
-use Rattle.kind_sum.specs.SumLaws.{magnitude_within}
 use Rattle.dom_definers.specs.Definers.{reads_of}
 use Rattle.dom_definers.specs.Hulls.{hull_at, span_of, spans, is_known, all_known, small_or_none, defined_hull, hull_by, IsSmallHull, AreSmallHulls}
 
@@ -41,26 +35,12 @@ known_small hs vars s k = record { parts = small_each hs vars s k }
 
 -- ---- what a definition reads
 
-among_each : (P : VarId → Type 0) (few many : List VarId) → AreAmong few many → Each P many → Each P few
-among_each P few many among h = each_map (λ u. is_listed u many ≡ true) P few (λ u e. listed P u many e h) among
-
-vars_inputs : (P : VarId → Type 0) (k : AnyKind) → Each P (any_vars k) → Each P (any_inputs k)
-vars_inputs P (Linear k) h = tt
-vars_inputs P (LinearOutput k) h = among_each P (any_measured (LinearOutput k)) (any_vars (LinearOutput k)) (any-measured (LinearOutput k)) h
-vars_inputs P (LinearReified k) h = among_each P (any_measured (LinearReified k)) (any_vars (LinearReified k)) (any-measured (LinearReified k)) h
-vars_inputs P (InSet k) h = tt
-vars_inputs P (BoolClause k) h = tt
-vars_inputs P (BoolClauseReified k) h = (each_new_arg P (any_inputs (BoolClauseReified k)) k.output h).0
-vars_inputs P (And k) h = (each_new_arg P (any_inputs (And k)) k.output h).0
-vars_inputs P (Or k) h = (each_new_arg P (any_inputs (Or k)) k.output h).0
-vars_inputs P (Xor k) h = (each_new_arg P (any_inputs (Xor k)) k.output h).0
-
 -- what holds of each variable that a definition reads holds of its inputs
 pub read_inputs : (P : VarId → Type 0) (k : AnyKind) → Each P (reads_of k) → Each P (any_inputs k)
 read_inputs P k h =
     let step : (b : Bool) → Each P (if b then any_inputs k else any_vars k) → Each P (any_inputs k) =
     λ b. elim b as (λ b. Each P (if b then any_inputs k else any_vars k) → Each P (any_inputs k))
-    [ true ↦ λ e. e | false ↦ λ e. vars_inputs P k e ] in
+    [ true ↦ λ e. e | false ↦ λ e. each_among P (any_inputs k) (any_vars k) (any-among k) e ] in
     step (any_functional k) h
 
 -- likewise of the variables of its sum or product
@@ -68,8 +48,8 @@ read_measured : (P : VarId → Type 0) (k : AnyKind) → Each P (reads_of k) →
 read_measured P k h =
     let step : (b : Bool) → any_functional k ≡ b → Each P (if b then any_inputs k else any_vars k) → Each P (any_measured k) =
     λ b. elim b as (λ b. any_functional k ≡ b → Each P (if b then any_inputs k else any_vars k) → Each P (any_measured k)) [
-      | true ↦ λ f e. among_each P (any_measured k) (any_inputs k) (any-measured_inputs k f) e
-      | false ↦ λ f e. among_each P (any_measured k) (any_vars k) (any-measured k) e
+      | true ↦ λ f e. each_among P (any_measured k) (any_inputs k) (any-measured_inputs k f) e
+      | false ↦ λ f e. each_among P (any_measured k) (any_vars k) (any-measured k) e
     ] in
     step (any_functional k) refl h
 
@@ -121,30 +101,6 @@ both_in a b p q =
 both_sizes : (m n : ℕ) → m ≤ n → n ≤ m → m ≡ n
 both_sizes m n p q = omega (arith, p, q)
 
--- the size of a constraint's sum or product over smaller intervals is no larger
-size_within : (k : AnyKind) (small large : ℕ → Ends) → AreWithin (any_measured k) small large → any_size k small ≤ any_size k large
-size_within (Linear k) small large w = magnitude_within k.terms Values small large (each_listed (λ u. EndsIn (small u.0) (large u.0)) (vars_of k.terms) w.parts)
-size_within (LinearOutput k) small large w = magnitude_within (rest_of k) Values small large (each_listed (λ u. EndsIn (small u.0) (large u.0)) (vars_of (rest_of k)) w.parts)
-size_within (LinearReified k) small large w = magnitude_within k.sum.terms Values small large (each_listed (λ u. EndsIn (small u.0) (large u.0)) (vars_of k.sum.terms) w.parts)
-size_within (InSet k) small large w = omega arith
-size_within (BoolClause k) small large w = omega arith
-size_within (BoolClauseReified k) small large w = omega arith
-size_within (And k) small large w = omega arith
-size_within (Or k) small large w = omega arith
-size_within (Xor k) small large w = omega arith
-
--- where a definition has a value reads the inputs' intervals alone
-same_defined : (k : AnyKind) (s t : ℕ → Ends) → any_defined k s ≡ any_defined k t
-same_defined (Linear k) s t = refl
-same_defined (LinearOutput k) s t = refl
-same_defined (LinearReified k) s t = refl
-same_defined (InSet k) s t = refl
-same_defined (BoolClause k) s t = refl
-same_defined (BoolClauseReified k) s t = refl
-same_defined (And k) s t = refl
-same_defined (Or k) s t = refl
-same_defined (Xor k) s t = refl
-
 module _ (k : AnyKind) (hs gs : List (Option Ends)) (ordered : AreOrdered hs (reads_of k)) (same : AreSame hs gs (reads_of k)) where
   ordered_too : AreOrdered gs (reads_of k)
   ordered_too = turned_ordered hs gs (reads_of k) ordered same
@@ -157,8 +113,8 @@ module _ (k : AnyKind) (hs gs : List (Option Ends)) (ordered : AreOrdered hs (re
 
   same_size : any_size k (spans hs) ≡ any_size k (spans gs)
   same_size = both_sizes (any_size k (spans hs)) (any_size k (spans gs))
-      (size_within k (spans hs) (spans gs) (record { parts = read_measured (λ u. EndsIn (spans hs u.0) (spans gs u.0)) k within_read.parts }))
-      (size_within k (spans gs) (spans hs) (record { parts = read_measured (λ u. EndsIn (spans gs u.0) (spans hs u.0)) k within_back.parts }))
+      (any-size k (spans hs) (spans gs) (record { parts = read_measured (λ u. EndsIn (spans hs u.0) (spans gs u.0)) k within_read.parts }))
+      (any-size k (spans gs) (spans hs) (record { parts = read_measured (λ u. EndsIn (spans gs u.0) (spans hs u.0)) k within_back.parts }))
 
   same_ranged : any_ranged k (spans hs) ≡ any_ranged k (spans gs)
   same_ranged = both_in (any_ranged k (spans hs)) (any_ranged k (spans gs))
@@ -167,6 +123,11 @@ module _ (k : AnyKind) (hs gs : List (Option Ends)) (ordered : AreOrdered hs (re
 
   same_inputs : all_known hs (any_inputs k) ≡ all_known gs (any_inputs k)
   same_inputs = same_known hs gs (any_inputs k) (read_inputs (λ u. hull_at hs u.0 ≡ hull_at gs u.0) k same)
+
+  same_tests : any_defined k (spans hs) ≡ any_defined k (spans gs)
+  same_tests = any-defined k (spans hs) (spans gs)
+      (each_map (λ u. hull_at hs u.0 ≡ hull_at gs u.0) (λ u. spans hs u.0 ≡ spans gs u.0) (any_inputs k) (λ u h. ap (λ (x : Option Ends). span_of x) h)
+      (read_inputs (λ u. hull_at hs u.0 ≡ hull_at gs u.0) k same))
 
   same_given : defined_hull k hs ≡ defined_hull k gs
   same_given =
@@ -177,7 +138,7 @@ module _ (k : AnyKind) (hs gs : List (Option Ends)) (ordered : AreOrdered hs (re
   -- a definition gives the same hull where the hulls of what it reads are the same
   pub same_hull : (declared : Option Ends) → hull_by k declared hs ≡ hull_by k declared gs
   same_hull declared =
-      ap (λ (b : Bool). if b then defined_hull k hs else declared) (same_defined k (spans hs) (spans gs))
+      ap (λ (b : Bool). if b then defined_hull k hs else declared) same_tests
       ∙ ap (λ (h : Option Ends). if any_defined k (spans gs) then h else declared) same_given
 
 -- ---- the hull has an integer

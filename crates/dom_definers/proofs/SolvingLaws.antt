@@ -8,6 +8,7 @@ use Rattle.std.proofs.lemmas.Option.{slice_get_read}
 use Rattle.dom_core.proofs.ListLaws.{get_take}
 use Rattle.any_kind.specs.Any.{any_functional, any_inputs, any_vars}
 use Rattle.digraph.specs.Order.{IsOrder}
+use Rattle.digraph.proofs.OrderLaws.{place_of}
 use Rattle.dom_core.specs.Ends.{Ends}
 use Rattle.dom_core.specs.declared.var_id.VarId.{VarId}
 use Rattle.kind_law.specs.Laws.{Each, AllBelow}
@@ -19,9 +20,6 @@ use Rattle.dom_definers.specs.declared.variable.Variable.{Variable}
 use Rattle.dom_definers.proofs.HullLaws.{AreOrdered, AreSame, same_hull, small_ordered}
 
 -- ---- places
-
-pub place_of : (xs : List ℕ) (x : ℕ) → Contains xs x → (i : ℕ) × (slice_get xs i ≡ Some x)
-place_of xs x h = (h.0, slice_get_read xs (length xs) h.0 x refl h.1 (sym h.2))
 
 pub read_at : (xs : List ℕ) (i : ℕ) → i < length xs → slice_get xs i ≡ Some (get_or xs i 0)
 read_at xs i lt = slice_get_read xs (length xs) i (get_or xs i 0) refl lt (get_or_default xs i 0 (get_or xs i 0) lt)

@@ -10,14 +10,14 @@ use Rattle.dom_core.proofs.TestLaws.{and_first, and_second}
 use Rattle.dom_core.specs.declared.var_id.VarId.{VarId}
 use Rattle.kind_law.specs.Argument.{is_listed}
 use Rattle.kind_law.specs.Laws.{AllBelow, AreSmall, Each, EndsIn, small_ends}
-use Rattle.kind_law.proofs.ArgumentLaws.{listed, same_var}
+use Rattle.kind_law.proofs.ArgumentLaws.{each_among, listed, same_var}
 use Rattle.kind_law.proofs.EachLaws.{each_map}
 use Rattle.dom_definers.specs.Hulls.{AreSmallHulls, hull_at, is_known, spans}
 use Rattle.dom_definers.specs.Width.{GivesVar, is_own, others_known}
 use Rattle.dom_definers.proofs.HullLaws.{known_one}
 
 pub measured_below : (n : ℕ) (k : AnyKind) → AllBelow n (any_vars k) → AllBelow n (any_measured k)
-measured_below n k h = each_map (λ u. is_listed u (any_vars k) ≡ true) (λ u. u.0 < n) (any_measured k) (λ u e. listed (λ w. w.0 < n) u (any_vars k) e h) (any-measured k)
+measured_below n k h = each_among (λ u. u.0 < n) (any_measured k) (any_vars k) (any-measured k) h
 
 not_own : (b c : Bool) → (b || c) ≡ true → b ≡ false → c ≡ true
 not_own true c h e = absurd (cc)

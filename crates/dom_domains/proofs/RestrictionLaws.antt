@@ -19,7 +19,8 @@ use Rattle.dom_definers.specs.declared.form.Form.{Form}
 use Rattle.dom_definers.specs.declared.form.Form.TheVariants.{Bool as Truths, Int}
 use Rattle.dom_definers.specs.declared.variable.Variable.{Variable}
 use Rattle.dom_domains.specs.Allowed.{Allows, AllowsForm}
-use Rattle.dom_domains.specs.Laws.{AllowsDefined, DefinedAreAllowed, MeetsEach}
+use Rattle.any_kind.specs.Meets.{MeetsEach}
+use Rattle.dom_domains.specs.Laws.{AllowsDefined, DefinedAreAllowed}
 use Rattle.dom_domains.specs.Restrictions.{AreRestrictions, AreRestrictionsFrom, IsRestrictedBy, IsRestriction, form_set, restricting_set, set_of}
 use Rattle.dom_domains.proofs.AllowedLaws.{set_allowed}
 use Rattle.dom_domains.proofs.RisingLaws.{rises_same}

@@ -1,6 +1,7 @@
 -- Laws of allowed values, hulls and restrictions.
-use Rattle.std.specs.Prelude.{◌≡◌, ◌↔◌, true, Option, Some, None, List, [], ◌∷◌, ℕ, length, slice_get, ℤ}
+use Rattle.std.specs.Prelude.{◌≡◌, ◌↔◌, true, Option, Some, None, List, [], ℕ, length, slice_get, ℤ}
 use Rattle.any_kind.specs.Any.{any_met}
+use Rattle.any_kind.specs.Meets.{MeetsEach}
 use Rattle.any_kind.specs.declared.any.AnyKind.{AnyKind}
 use Rattle.dom_core.specs.Assignment.{entry_at}
 use Rattle.dom_core.specs.Rises.{first_of, is_among, last_of}
@@ -11,11 +12,6 @@ use Rattle.dom_definers.specs.declared.variable.Variable.{Variable}
 use Rattle.dom_domains.specs.Allowed.{Allows, EachAllowed, values_of}
 use Rattle.dom_domains.specs.Faults.{IsOpen}
 use Rattle.dom_domains.specs.Restrictions.{AreRestrictions, IsRestriction, set_of}
-
--- the assignment satisfies each of the constraints
-abbrev pub MeetsEach : List AnyKind → List ℤ → Type 0
-MeetsEach [] a = Unit {0}
-MeetsEach (k ∷ ks) a = (any_met k a ≡ true) × MeetsEach ks a
 
 -- a variable with this definer is free, or is allowed the value
 abbrev pub AllowsDefined : Option ℕ → Variable → ℤ → Type 0

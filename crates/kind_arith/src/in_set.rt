@@ -112,6 +112,7 @@ fn constant_visited(is_in: bool) -> Visited
 impl Kind for InSet {
     ghost use Rattle.std.specs.Prelude.{true, []};
     ghost use Rattle.kind_arith.specs.InSet.{restricted_vars, restriction_met, restriction_kept, restriction_refuted};
+    ghost use Rattle.kind_law.specs.TotalLaws.{no_size};
     ghost use Rattle.kind_arith.specs.InSetLaws.{restriction-fits, restriction-width, restriction-measured, restriction-shrink, restriction-fixed, restriction-keep, restriction-still};
 
     ghost vars = { restricted_vars };
@@ -171,6 +172,8 @@ impl Kind for InSet {
     ghost width_law = { restriction-width };
 
     ghost measured_law = { restriction-measured };
+
+    ghost size_law = { λ k. no_size };
 
     ghost shrink_law = { restriction-shrink };
 

@@ -10,11 +10,11 @@ use Rattle.kind_law.specs.Argument.{with_new_arg, is_new}
 use Rattle.kind_law.specs.Function.{have_none}
 use Rattle.kind_law.specs.Laws.{hulls}
 use Rattle.kind_parts.specs.Vars.{Gathered, gathered, variables_of}
-use Rattle.kind_bool.specs.Operand.{operand_falls, operand_rises, operand_moves, operand_certain, operand_refuted, arguments_of}
-use Rattle.kind_bool.specs.BoolClause.{clause_refuted}
-use Rattle.kind_bool.specs.Connective.{Connective, truths_of, move_ends, moves_of, connective_refuted, truth_of_clause, IsClauseKept, IsConnectiveKept, connective_inputs}
-use Rattle.kind_bool.specs.declared.operand.Operand.{Operand}
-use Rattle.kind_bool.proofs.PlanLaws.{is_single}
+use Rattle.kind_truths.specs.Operand.{operand_falls, operand_rises, operand_moves, operand_certain, operand_refuted, arguments_of}
+use Rattle.kind_truths.specs.BoolClause.{clause_refuted}
+use Rattle.kind_truths.specs.Connective.{Connective, truths_of, move_ends, moves_of, connective_refuted, truth_of_clause, IsClauseKept, IsConnectiveKept, connective_inputs}
+use Rattle.kind_truths.specs.declared.operand.Operand.{Operand}
+use Rattle.kind_truths.proofs.PlanLaws.{is_single}
 
 all_or_none : (c r : Bool) → have_none (truths_of false c r) (only (pos 1)) ≡ r
 all_or_none false false = refl

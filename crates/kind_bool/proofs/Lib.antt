@@ -1,5 +1,2 @@
-pub mod PlaceLaws
-pub mod PlanLaws
-pub mod ToldLaws
-pub mod ClauseLaws
-pub mod XorTruths
+mod ClauseLaws
+mod XorTruths

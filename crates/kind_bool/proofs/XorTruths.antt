@@ -2,7 +2,7 @@
 use Rattle.std.proofs.Common.{◌≡◌, Bool, true, false, ◌∙◌, ap, refl, Some, None}
 use Rattle.dom_core.specs.Ends.{Ends, only}
 use Rattle.kind_parts.specs.Relation.{number_of, truth_ends}
-use Rattle.kind_bool.specs.Operand.{is_certain}
+use Rattle.kind_truths.specs.Operand.{is_certain}
 use Rattle.kind_bool.specs.Xor.{differ, IsDecided, truths_by, truths_between}
 
 by_both : (e f : Ends) (c r d s : Bool) → is_certain false e ≡ c → is_certain true e ≡ r → is_certain false f ≡ d → is_certain true f ≡ s → truths_between e f ≡ truths_by c r d s

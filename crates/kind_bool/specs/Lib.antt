@@ -1,12 +1,4 @@
-pub mod Operand
-pub mod BoolClause
-pub mod Connective
-pub mod Plan
-pub mod Told
 pub mod Xor
-pub mod OperandLaws
-pub mod BoolClauseLaws
-pub mod ConnectiveLaws
 pub mod XorLaws
 pub use Rattle.dom_core.specs.Ends
 pub use Rattle.dom_core.specs.Assignment
@@ -16,3 +8,6 @@ pub use Rattle.kind_law.specs.Function
 pub use Rattle.kind_law.specs.Output
 pub use Rattle.kind_parts.specs.Relation
 pub use Rattle.kind_parts.specs.Vars
+pub use Rattle.kind_truths.specs.Operand
+pub use Rattle.kind_truths.specs.BoolClause
+pub use Rattle.kind_truths.specs.Connective

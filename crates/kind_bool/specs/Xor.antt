@@ -11,7 +11,7 @@ use Rattle.kind_law.specs.Laws.{befores, afters}
 use Rattle.kind_law.specs.Output.{output_met, output_refuted, output_kept, is_apart}
 use Rattle.kind_parts.specs.Relation.{number_of, truth_ends}
 use Rattle.kind_parts.specs.Vars.{variables_of}
-use Rattle.kind_bool.specs.Operand.{makes_true, is_certain}
+use Rattle.kind_truths.specs.Operand.{makes_true, is_certain}
 
 -- two arguments, and the one that is 1 exactly where one of them is true and the other isn't
 pub record Xor : Type 0 where

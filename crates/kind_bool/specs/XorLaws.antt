@@ -12,17 +12,18 @@ use Rattle.kind_law.specs.Argument.{ArgHas, arg_value, arg_ends, var_of}
 use Rattle.kind_law.specs.DefineLaws.{ApartLaw, ArePartsOf, PassLaw, InputWidthLaw, ValueLaw, InputLaw, RangeLaw, MonotoneLaw, OwnChangeLaw, FixesLaw}
 use Rattle.kind_law.specs.Laws.{Each, EndsIn, AreAmong, points, befores, afters, Covers, FitsLaw, WidthLaw, ShrinkLaw, FixedLaw, KeepLaw, StillLaw}
 use Rattle.kind_law.specs.Output.{PointLaw}
-use Rattle.kind_law.proofs.ArgumentLaws.{each_listed, split_arg}
+use Rattle.kind_law.proofs.ArgumentLaws.{among_new_arg, each_listed, split_arg}
 use Rattle.kind_law.proofs.ChangeLaws.{change_changed, difference_has, rest_changed}
 use Rattle.kind_law.proofs.EachLaws.{each_map}
 use Rattle.kind_law.proofs.OutputLaws.{output_apart, output_parts, output_value, output_fixes, output_shrinks, output_fixed, output_keeps, output_stills}
 use Rattle.kind_parts.specs.Relation.{number_of, truth_ends}
 use Rattle.kind_parts.specs.Vars.{variables_of}
 use Rattle.kind_parts.proofs.RelationLaws.{number_is_truth}
-use Rattle.kind_bool.specs.Operand.{makes_true, is_certain}
-use Rattle.kind_bool.specs.OperandLaws.{certain_value, refuted_value, certain_within, certain_only, turned_value, value_lies, ends_within, value_same, ends_point}
-use Rattle.kind_bool.specs.ConnectiveLaws.{truth_lies, truths_within, never_both}
+use Rattle.kind_truths.specs.Operand.{makes_true, is_certain}
+use Rattle.kind_truths.specs.OperandLaws.{certain_value, refuted_value, certain_within, certain_only, turned_value, value_lies}
+use Rattle.kind_truths.specs.ConnectiveLaws.{truth_lies, truths_within, never_both}
 use Rattle.kind_bool.specs.Xor.{Xor, differ, is_true, surely, never, differ_surely, agree_surely, truths_by, xor_inputs, xor_vars, xor_given, xor_range, xor_own_change, xor_changed, xor_met, xor_refuted, xor_kept, gives_output}
+use Rattle.kind_law.proofs.ValueLaws.{arg_within, arg_same, arg_point}
 
 -- what holds of the inputs holds of both arguments
 pub both_args : (P : VarId → Type 0) (k : Xor) → Each P (xor_inputs k) → ArgHas P k.first × ArgHas P k.second
@@ -33,8 +34,8 @@ both_args P k h =
 pub xor-input : (k : Xor) → InputLaw (xor_inputs k) (xor_given k)
 xor-input k a b h =
     let args = both_args (λ u. entry_at a u.0 ≡ entry_at b u.0) k h in
-    ap (λ (x : ℤ). number_of (differ (makes_true false x) (is_true a k.second))) (value_same a b k.first args.0)
-    ∙ ap (λ (x : ℤ). number_of (differ (is_true b k.first) (makes_true false x))) (value_same a b k.second args.1)
+    ap (λ (x : ℤ). number_of (differ (makes_true false x) (is_true a k.second))) (arg_same a b k.first args.0)
+    ∙ ap (λ (x : ℤ). number_of (differ (is_true b k.first) (makes_true false x))) (arg_same a b k.second args.1)
 
 -- truths of which it is known what is sure of them
 differ_true : (p q c r d e : Bool) → (c ≡ true → p ≡ true) → (r ≡ true → p ≡ false) → (d ≡ true → q ≡ true) → (e ≡ true → q ≡ false) → ((c && e) || (r && d)) ≡ true → differ p q ≡ true
@@ -88,8 +89,8 @@ never_both_ways false false false false f g = λ h t. not_both false h refl
 pub xor-monotone : (k : Xor) → MonotoneLaw (xor_inputs k) (xor_range k)
 xor-monotone k small large w =
     let args = both_args (λ u. EndsIn (small u.0) (large u.0)) k w.parts in
-    let first : EndsIn (arg_ends small k.first) (arg_ends large k.first) = ends_within small large k.first args.0 in
-    let second : EndsIn (arg_ends small k.second) (arg_ends large k.second) = ends_within small large k.second args.1 in
+    let first : EndsIn (arg_ends small k.first) (arg_ends large k.first) = arg_within small large k.first args.0 in
+    let second : EndsIn (arg_ends small k.second) (arg_ends large k.second) = arg_within small large k.second args.1 in
     truths_within false (differ_surely small k) (differ_surely large k) (agree_surely small k) (agree_surely large k)
     (both_within (surely large k.first) (never large k.second) (never large k.first) (surely large k.second) (surely small k.first) (never small k.second) (never small k.first) (surely small k.second)
     (certain_within false (arg_ends small k.first) (arg_ends large k.first) first) (certain_within true (arg_ends small k.second) (arg_ends large k.second) second)
@@ -119,10 +120,10 @@ truths_point false true = refl
 truths_point false false = refl
 
 surely_point : (a : List ℤ) (x : Arg) → surely (points a) x ≡ is_true a x
-surely_point a x = ap (is_certain false) (ends_point a x) ∙ certain_only false (arg_value a x)
+surely_point a x = ap (is_certain false) (arg_point a x) ∙ certain_only false (arg_value a x)
 
 never_point : (a : List ℤ) (x : Arg) → never (points a) x ≡ not (is_true a x)
-never_point a x = ap (is_certain true) (ends_point a x) ∙ certain_only true (arg_value a x) ∙ turned_value false (arg_value a x)
+never_point a x = ap (is_certain true) (arg_point a x) ∙ certain_only true (arg_value a x) ∙ turned_value false (arg_value a x)
 
 pub xor-point : (k : Xor) → PointLaw (xor_given k) (xor_range k)
 xor-point k a =
@@ -174,6 +175,9 @@ xor-width k s small size = tt
 
 pub xor-measured : (k : Xor) → AreAmong [] (xor_vars k)
 xor-measured k = tt
+
+pub xor-among : (k : Xor) → AreAmong (xor_inputs k) (xor_vars k)
+xor-among k = among_new_arg (xor_inputs k) k.output
 
 pub xor-inputs : (k : Xor) → FitsLaw (xor_inputs k) (λ s. Unit {0})
 xor-inputs k small large within fits = tt

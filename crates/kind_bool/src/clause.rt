@@ -1,14 +1,12 @@
 //! Clauses.
 ghost use Rattle.std.specs.Prelude.{◌≡◌, IfOk, true};
-ghost use Rattle.kind_bool.specs.Operand.{operands_of};
-ghost use Rattle.kind_bool.specs.Connective.{AreSingle, truth_of_clause};
+ghost use Rattle.kind_truths.specs.Operand.{operands_of};
+ghost use Rattle.kind_truths.specs.Connective.{AreSingle, truth_of_clause};
 
-use crate::operand::{Operand, operands_of};
-use crate::operands::{all_refuted, some_certain, some_moves, vars_of};
-use crate::parts::Parts;
 use dom_cells::{Cells, Hulls, Point, Region};
 use dom_core::{After, Arg, Assignment, Clause, Intervals, Literal, VarId, View};
 use kind_law::{Kind, Propagate, Scratch, Visited, next_of, reason_of, visit_of};
+use kind_truths::{Operand, Parts, all_refuted, operands_of, some_certain, some_moves, vars_of};
 use std::alloc::{AllocError, Global};
 use std::marker::Model;
 
@@ -23,8 +21,8 @@ pub struct BoolClause {
 
 impl Model for BoolClause {
     ghost use Rattle.std.specs.Prelude.{List};
-    ghost use Rattle.kind_bool.specs.Connective.{IsClauseKept};
-    ghost use Rattle.kind_bool.specs.declared.operand.Operand.{Operand};
+    ghost use Rattle.kind_truths.specs.Connective.{IsClauseKept};
+    ghost use Rattle.kind_truths.specs.declared.operand.Operand.{Operand};
 
     ghost Value = { List Operand };
 
@@ -52,19 +50,16 @@ impl BoolClause {
     fn parts(&self) -> Parts<'_>
         ensures { result ≡ truth_of_clause self.now }
     {
-        Parts {
-            operands: self.operands.as_slice(),
-            flipped: false,
-            output: Arg::Const(1),
-        }
+        Parts::new(self.operands.as_slice(), false, Arg::Const(1))
     }
 }
 
 impl Kind for BoolClause {
     ghost use Rattle.std.specs.Prelude.{false, []};
-    ghost use Rattle.kind_bool.specs.Operand.{operand_vars};
-    ghost use Rattle.kind_bool.specs.BoolClause.{clause_met, clause_kept, clause_refuted};
-    ghost use Rattle.kind_bool.specs.BoolClauseLaws.{clause-fits, clause-width, clause-measured, clause-shrink, clause-fixed, clause-keep, clause-still};
+    ghost use Rattle.kind_truths.specs.Operand.{operand_vars};
+    ghost use Rattle.kind_truths.specs.BoolClause.{clause_met, clause_kept, clause_refuted};
+    ghost use Rattle.kind_law.specs.TotalLaws.{no_size};
+    ghost use Rattle.kind_truths.specs.BoolClauseLaws.{clause-fits, clause-width, clause-measured, clause-shrink, clause-fixed, clause-keep, clause-still};
 
     ghost vars = { operand_vars };
 
@@ -114,6 +109,8 @@ impl Kind for BoolClause {
     ghost width_law = { clause-width };
 
     ghost measured_law = { clause-measured };
+
+    ghost size_law = { λ k. no_size };
 
     ghost shrink_law = { clause-shrink };
 

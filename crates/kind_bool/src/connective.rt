@@ -2,12 +2,9 @@
 ghost use Rattle.std.specs.Prelude.{◌≡◌, ◌&&◌, IfOk};
 ghost use Rattle.kind_law.specs.Argument.{is_new, is_variable};
 ghost use Rattle.kind_parts.specs.Relation.{number_of};
-ghost use Rattle.kind_bool.specs.Operand.{operands_of, turned};
-ghost use Rattle.kind_bool.specs.Connective.{conjunction_of, disjunction_of, clause_truth_of, move_ends};
+ghost use Rattle.kind_truths.specs.Operand.{operands_of, turned};
+ghost use Rattle.kind_truths.specs.Connective.{conjunction_of, disjunction_of, clause_truth_of, move_ends};
 
-use crate::operand::{Operand, operands_of, turned};
-use crate::operands::{some_certain, some_moves, vars_of};
-use crate::parts::Parts;
 use dom_cells::{Cells, Hulls, Point, Region};
 use dom_core::{
     After, Arg, Assignment, Before, Clause, Interval, Intervals, Literal, Movement, VarId, View,
@@ -17,6 +14,7 @@ use kind_law::{
     movement_of, next_of, reason_of, var_of, visit_of,
 };
 use kind_parts::{is_new, with_output};
+use kind_truths::{Operand, Parts, operands_of, some_certain, some_moves, turned, vars_of};
 use std::alloc::{AllocError, Global};
 use std::marker::Model;
 
@@ -55,7 +53,7 @@ pub type Or = Connective<Disjunction>;
 pub type BoolClauseReified = Connective<ClauseTruth>;
 
 impl<F: Drop> Model for Connective<F> {
-    ghost use Rattle.kind_bool.specs.Connective.{Connective, IsConnectiveKept};
+    ghost use Rattle.kind_truths.specs.Connective.{Connective, IsConnectiveKept};
 
     ghost Value = { Connective };
 
@@ -70,9 +68,9 @@ impl<F: Drop> Connective<F> {
     ghost use Rattle.kind_law.specs.Argument.{arg_ends};
     ghost use Rattle.kind_law.specs.Laws.{Each, AllBelow, befores, afters};
     ghost use Rattle.kind_law.specs.Output.{moved};
-    ghost use Rattle.kind_bool.specs.BoolClause.{clause_met};
-    ghost use Rattle.kind_bool.specs.Operand.{turned};
-    ghost use Rattle.kind_bool.specs.Connective.{connective_inputs, connective_vars, connective_range, connective_changed, connective_own_change};
+    ghost use Rattle.kind_truths.specs.BoolClause.{clause_met};
+    ghost use Rattle.kind_truths.specs.Operand.{turned};
+    ghost use Rattle.kind_truths.specs.Connective.{connective_of, connective_inputs, connective_vars, connective_range, connective_changed, connective_own_change};
 
     /// The connective of these operands.
     fn of(
@@ -82,7 +80,7 @@ impl<F: Drop> Connective<F> {
         output: Arg,
         form: F,
     ) -> Result<Connective<F>, AllocError>
-        ensures { IfOk result (λ k. k ≡ record { operands = operands.items; flipped = flipped; output = output }) }
+        ensures { IfOk result (λ k. k ≡ connective_of operands.items flipped output) }
     {
         let inputs = vars_of(alloc, operands.as_slice())?;
         let single = inputs.is_single();
@@ -104,11 +102,7 @@ impl<F: Drop> Connective<F> {
     fn parts(&self) -> Parts<'_>
         ensures { result ≡ self.now }
     {
-        Parts {
-            operands: self.operands.as_slice(),
-            flipped: self.flipped,
-            output: self.output,
-        }
+        Parts::new(self.operands.as_slice(), self.flipped, self.output)
     }
 
     /// The truths under intervals.
@@ -218,8 +212,9 @@ impl Connective<ClauseTruth> {
 
 impl<F: Drop> Kind for Connective<F> {
     ghost use Rattle.std.specs.Prelude.{false, []};
-    ghost use Rattle.kind_bool.specs.Connective.{connective_vars, connective_met, connective_kept, connective_refuted};
-    ghost use Rattle.kind_bool.specs.ConnectiveLaws.{connective-fits, connective-width, connective-measured, connective-shrink, connective-fixed, connective-keep, connective-still};
+    ghost use Rattle.kind_truths.specs.Connective.{connective_vars, connective_met, connective_kept, connective_refuted};
+    ghost use Rattle.kind_law.specs.TotalLaws.{no_size};
+    ghost use Rattle.kind_truths.specs.ConnectiveLaws.{connective-fits, connective-width, connective-measured, connective-shrink, connective-fixed, connective-keep, connective-still};
 
     ghost vars = { connective_vars };
 
@@ -272,6 +267,8 @@ impl<F: Drop> Kind for Connective<F> {
 
     ghost measured_law = { connective-measured };
 
+    ghost size_law = { λ k. no_size };
+
     ghost shrink_law = { connective-shrink };
 
     ghost fixed_law = { connective-fixed };
@@ -318,8 +315,9 @@ impl<F: Drop> Propagate for Connective<F> {
 impl<F: Drop> Define for Connective<F> {
     ghost use Rattle.std.specs.Prelude.{true};
     ghost use Rattle.kind_law.specs.Argument.{var_of};
-    ghost use Rattle.kind_bool.specs.Connective.{defines_output, connective_inputs, connective_given, connective_range, connective_own_change};
-    ghost use Rattle.kind_bool.specs.ConnectiveLaws.{connective-inputs, connective-pass, connective-input_width, connective-measured_inputs, connective-apart, connective-parts, connective-value, connective-input, connective-range, connective-monotone, connective-own_change, connective-fixes};
+    ghost use Rattle.kind_truths.specs.Connective.{defines_output, connective_inputs, connective_given, connective_range, connective_own_change};
+    ghost use Rattle.kind_law.specs.TotalLaws.{total_defined};
+    ghost use Rattle.kind_truths.specs.ConnectiveLaws.{connective-inputs, connective-pass, connective-input_width, connective-measured_inputs, connective-among, connective-apart, connective-parts, connective-value, connective-input, connective-range, connective-monotone, connective-own_change, connective-fixes};
 
     ghost functional = { defines_output };
 
@@ -373,6 +371,8 @@ impl<F: Drop> Define for Connective<F> {
 
     ghost measured_inputs_law = { connective-measured_inputs };
 
+    ghost among_law = { connective-among };
+
     ghost apart_law = { connective-apart };
 
     ghost parts_law = { connective-parts };
@@ -380,6 +380,8 @@ impl<F: Drop> Define for Connective<F> {
     ghost value_law = { connective-value };
 
     ghost input_law = { connective-input };
+
+    ghost defined_law = { λ k. total_defined (connective_inputs k) };
 
     ghost range_law = { connective-range };
 

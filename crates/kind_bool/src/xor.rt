@@ -4,8 +4,6 @@ ghost use Rattle.dom_core.specs.Ends.{HasBits};
 ghost use Rattle.kind_bool.specs.Xor.{differ, IsDecided, truths_between};
 
 use crate::connective::{is_variable, number_of};
-use crate::operand::is_certain;
-use crate::parts::truth;
 use dom_cells::{Cells, Hulls, Point, Region};
 use dom_core::{
     After, Arg, Assignment, Before, Clause, Interval, Intervals, Literal, Movement, VarId, View,
@@ -15,6 +13,7 @@ use kind_law::{
     is_function_kept, movement_of, next_of, reason_of, span, var_of,
 };
 use kind_parts::{distinct_vars, is_new, with_output};
+use kind_truths::{is_certain, truth};
 use std::alloc::{AllocError, Global};
 use std::marker::Model;
 
@@ -128,6 +127,7 @@ impl Xor {
 impl Kind for Xor {
     ghost use Rattle.std.specs.Prelude.{false, []};
     ghost use Rattle.kind_bool.specs.Xor.{xor_vars, xor_met, xor_kept, xor_refuted};
+    ghost use Rattle.kind_law.specs.TotalLaws.{no_size};
     ghost use Rattle.kind_bool.specs.XorLaws.{xor-fits, xor-width, xor-measured, xor-shrink, xor-fixed, xor-keep, xor-still};
 
     ghost vars = { xor_vars };
@@ -181,6 +181,8 @@ impl Kind for Xor {
 
     ghost measured_law = { xor-measured };
 
+    ghost size_law = { λ k. no_size };
+
     ghost shrink_law = { xor-shrink };
 
     ghost fixed_law = { xor-fixed };
@@ -209,7 +211,8 @@ impl Define for Xor {
     ghost use Rattle.std.specs.Prelude.{true};
     ghost use Rattle.kind_law.specs.Argument.{var_of};
     ghost use Rattle.kind_bool.specs.Xor.{gives_output, xor_inputs, xor_given, xor_range, xor_own_change};
-    ghost use Rattle.kind_bool.specs.XorLaws.{xor-inputs, xor-pass, xor-input_width, xor-measured_inputs, xor-apart, xor-parts, xor-value, xor-input, xor-range, xor-monotone, xor-own_change, xor-fixes};
+    ghost use Rattle.kind_law.specs.TotalLaws.{total_defined};
+    ghost use Rattle.kind_bool.specs.XorLaws.{xor-inputs, xor-pass, xor-input_width, xor-measured_inputs, xor-among, xor-apart, xor-parts, xor-value, xor-input, xor-range, xor-monotone, xor-own_change, xor-fixes};
 
     ghost functional = { gives_output };
 
@@ -263,6 +266,8 @@ impl Define for Xor {
 
     ghost measured_inputs_law = { xor-measured_inputs };
 
+    ghost among_law = { xor-among };
+
     ghost apart_law = { xor-apart };
 
     ghost parts_law = { xor-parts };
@@ -270,6 +275,8 @@ impl Define for Xor {
     ghost value_law = { xor-value };
 
     ghost input_law = { xor-input };
+
+    ghost defined_law = { λ k. total_defined (xor_inputs k) };
 
     ghost range_law = { xor-range };
 

@@ -68,7 +68,15 @@ pub split_arg : (P : VarId → Type 0) (x : Arg) (vs : List VarId) → Each P (w
 split_arg P (Var x) vs h = h
 split_arg P (Const c) vs h = (tt, h)
 
+pub join_arg : (P : VarId → Type 0) (x : Arg) (vs : List VarId) → ArgHas P x → Each P vs → Each P (with_arg x vs)
+join_arg P (Var x) vs h g = (h, g)
+join_arg P (Const c) vs h g = g
+
 -- ---- variables that stand in a list, or don't
+
+-- what holds of many variables holds of those among them
+pub each_among : (P : VarId → Type 0) (few many : List VarId) → AreAmong few many → Each P many → Each P few
+each_among P few many among h = each_map (λ u. is_listed u many ≡ true) P few (λ u e. listed P u many e h) among
 
 -- a variable that isn't listed differs from those that are
 pub unlisted_apart : (u : VarId) (vs : List VarId) → is_listed u vs ≡ false → Each (λ w. w.0 ≡ u.0 → ⊥) vs
@@ -98,6 +106,10 @@ listed_end u (v ∷ vs) = listed_later u v (vs ++ u ∷ []) (listed_end u vs)
 pub all_listed : (vs : List VarId) → AreAmong vs vs
 all_listed [] = tt
 all_listed (v ∷ vs) = (listed_head v vs, each_map (λ u. is_listed u vs ≡ true) (λ u. is_listed u (v ∷ vs) ≡ true) vs (λ u h. listed_later u v vs h) (all_listed vs))
+
+-- the variables stand among themselves and the argument's
+pub among_new_arg : (vs : List VarId) (x : Arg) → AreAmong vs (with_new_arg vs x)
+among_new_arg vs x = (each_new_arg (λ u. is_listed u (with_new_arg vs x) ≡ true) vs x (all_listed (with_new_arg vs x))).0
 
 part_at : (output v : VarId) (inputs : List VarId) → is_listed v inputs ≡ true → (v.0 == output.0 || is_listed v inputs) ≡ true
 part_at output v inputs h = or_right (v.0 == output.0) (is_listed v inputs) h

@@ -10,4 +10,5 @@ pub mod OutputLaws
 pub mod ReasonLaws
 pub mod StepLaws
 pub mod ValidLaws
+pub mod ValueLaws
 pub mod VisitLaws

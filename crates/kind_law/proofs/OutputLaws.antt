@@ -24,12 +24,9 @@ use Rattle.kind_law.proofs.ArgumentLaws.{each_new_arg, parts_last, unlisted_apar
 use Rattle.kind_law.proofs.BoundLaws.{smaller-within}
 use Rattle.dom_core.proofs.EndsLaws.{lies}
 use Rattle.kind_law.proofs.EachLaws.{each_map}
+use Rattle.kind_law.proofs.ValueLaws.{arg_point, arg_within}
 
 -- ---- the laws of a kind
-
-arg_within : (small large : ℕ → Ends) (x : Arg) → ArgHas (λ u. EndsIn (small u.0) (large u.0)) x → EndsIn (arg_ends small x) (arg_ends large x)
-arg_within small large (Var u) h = h
-arg_within small large (Const c) h = record { low = omega (arith, ints); order = omega (arith, ints); high = omega (arith, ints) }
 
 pub output_shrinks : (inputs : List VarId) (ranged : (ℕ → Ends) → Ends) (x : Arg) → MonotoneLaw inputs ranged → ShrinkLaw (λ v. false) (with_new_arg inputs x) (output_refuted ranged x)
 output_shrinks inputs ranged x law small large s r =
@@ -37,10 +34,6 @@ output_shrinks inputs ranged x law small large s r =
     let both = each_new_arg (λ u. EndsIn (hulls small u.0) (hulls large u.0)) inputs x w.parts in
     none_smaller (ranged (hulls large)) (arg_ends (hulls large) x) (ranged (hulls small)) (arg_ends (hulls small) x)
     (law (hulls small) (hulls large) (record { parts = both.0 })) (arg_within (hulls small) (hulls large) x both.1) r
-
-arg_point : (a : List ℤ) (x : Arg) → arg_ends (points a) x ≡ only (arg_value a x)
-arg_point a (Var u) = refl
-arg_point a (Const c) = refl
 
 pub output_fixed : (given : List ℤ → ℤ) (ranged : (ℕ → Ends) → Ends) (x : Arg) → PointLaw given ranged → FixedLaw (output_refuted ranged x) (output_met given x)
 output_fixed given ranged x law a =

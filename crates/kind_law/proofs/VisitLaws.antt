@@ -1,5 +1,6 @@
 -- Ends that are collected variable by variable, and that stay implied in smaller boxes.
-use Rattle.std.proofs.Common.{◌≡◌, ℕ, ◌+◌, ◌<◌, Bool, List, [], ◌∷◌, ◌++◌, take, Option, Some, None, slice_get, refl, sym, ap, subst}
+use Rattle.std.proofs.Common.{◌≡◌, ℕ, ◌+◌, ◌<◌, ◌==◌, Bool, true, false, not, List, [], ◌∷◌, ◌++◌, length, take, Option, Some, None, slice_get, refl, sym, ◌∙◌, ap, subst, arith}
+use Rattle.std.proofs.lemmas.Bool.Decides.{Decides-eqb}
 use Rattle.std.specs.Option.{option_to_list}
 use Rattle.dom_cells.specs.Box.{kept}
 use Rattle.dom_cells.specs.Cell.{IsSane, IsPossible}
@@ -7,10 +8,11 @@ use Rattle.dom_core.specs.Literal.{negation}
 use Rattle.dom_core.specs.declared.literal.Literal.{Literal}
 use Rattle.dom_core.specs.declared.var_id.VarId.{VarId}
 use Rattle.dom_cells.specs.declared.start.Start.{Start}
-use Rattle.kind_law.specs.Visit.{AllImplied, AreEnds}
-use Rattle.kind_law.specs.Laws.{Each, ShrinkLaw, IsSmaller}
+use Rattle.kind_law.specs.Visit.{AllImplied, AreEnds, IsBatch, IsQuiet, cut_box}
+use Rattle.kind_law.specs.Laws.{ShrinkLaw, IsSmaller}
 use Rattle.kind_law.specs.Next.{HasNoEnd, IsFirstEnd, IsEndOf}
 use Rattle.kind_law.specs.Reason.{IsImplied}
+use Rattle.kind_law.proofs.ArgumentLaws.{each-push}
 use Rattle.kind_law.proofs.EachLaws.{each_more, each_none}
 use Rattle.kind_law.proofs.ReasonLaws.{end_cause}
 
@@ -55,16 +57,12 @@ pub still_implied : (refuted : (ℕ → Start) → Bool) (inside : ℕ → Bool)
 still_implied refuted inside vars small large l law smaller possible still h =
     record { end_is = h.end_is; possible = possible; open_still = still; refutes = law (kept small (negation l)) (kept large (negation l)) smaller h.refutes }
 
-each_last : (P : VarId → Type 0) (vs : List VarId) (u : VarId) → Each P vs → P u → Each P (vs ++ u ∷ [])
-each_last P [] u h p = (p, tt)
-each_last P (v ∷ vs) u h p = (h.0, each_last P vs u h.1 p)
-
 pub ends_push : (refuted : (ℕ → Start) → Bool) (vs : List VarId) (b : ℕ → Start) (n : ℕ) (u : VarId) (ls : List Literal) (r : Option Literal)
     → AreEnds refuted vs b n ls → u.0 < n → IsSane (b u.0) → IsFirstEnd refuted b u r → AreEnds refuted (vs ++ u ∷ []) b n (ls ++ option_to_list r)
 ends_push refuted vs b n u ls None h lt s e =
     record {
       implied = subst (AllImplied refuted b n) (sym (append_nothing ls)) h.implied;
-      none = λ z. each_last (HasNoEnd refuted b) vs u (h.none (subst (λ (ks : List Literal). ks ≡ []) (append_nothing ls) z)) e;
+      none = λ z. each-push (HasNoEnd refuted b) vs u (h.none (subst (λ (ks : List Literal). ks ≡ []) (append_nothing ls) z)) e;
     }
 ends_push refuted vs b n u ls (Some l) h lt s e =
     record {
@@ -72,3 +70,24 @@ ends_push refuted vs b n u ls (Some l) h lt s e =
           (end_cause refuted b l.var l.rel l.value (subst (λ (w : VarId). IsSane (b w.0)) (sym e.0) s) (subst (λ (w : VarId). IsEndOf refuted b w l.rel l.value) (sym e.0) e.1));
       none = λ z. absurd (not_empty ls l z);
     }
+
+no_length : (ls : List Literal) → (length ls == 0) ≡ true → ls ≡ []
+no_length [] h = refl
+no_length (l ∷ ls) h = let e : length (l ∷ ls) ≡ 0 = (Decides-eqb (length (l ∷ ls)) 0).0 h in absurd (omega arith)
+
+-- a list that is told to be empty is
+pub nothing_left : (ls now : List Literal) (empty : Bool) → now ≡ ls → empty ≡ (length now == 0) → empty ≡ true → ls ≡ []
+nothing_left ls now empty e f h = no_length ls (ap (λ (ks : List Literal). length ks == 0) (sym e) ∙ sym f ∙ h)
+
+empty_from : (empty : Bool) → not empty ≡ false → empty ≡ true
+empty_from true h = refl
+empty_from false h = absurd (cc)
+
+-- ends after which more may follow wherever there are some
+pub plain_batch : (refuted : (ℕ → Start) → Bool) (vars : List VarId) (b : ℕ → Start) (n : ℕ) (ls : List Literal) (empty : Bool) → refuted b ≡ false → AreEnds refuted vars b n ls
+    → (empty ≡ true → ls ≡ []) → IsBatch refuted vars b n (not empty) ls
+plain_batch refuted vars b n ls empty stands ends none = record {
+  stands = stands;
+  ends = ends;
+  last = λ h. subst (λ (ks : List Literal). IsQuiet refuted vars (cut_box b ks)) (sym (none (empty_from empty h))) (record { stands = stands; ends = ends.none (none (empty_from empty h)) });
+}

@@ -38,6 +38,10 @@ ValueLaw output fits_inputs given met = (a : List ℤ) → fits_inputs (points a
 abbrev pub InputLaw : List VarId → (List ℤ → ℤ) → Type 0
 InputLaw inputs given = (a b : List ℤ) → Each (λ u. entry_at a u.0 ≡ entry_at b u.0) inputs → given a ≡ given b
 
+-- whether the function has a value reads the intervals of the inputs alone
+abbrev pub DefinedLaw : List VarId → ((ℕ → Ends) → Bool) → Type 0
+DefinedLaw inputs defined = (s t : ℕ → Ends) → Each (λ u. s u.0 ≡ t u.0) inputs → defined s ≡ defined t
+
 -- the range covers every value that inputs within the intervals give
 abbrev pub RangeLaw : List VarId → (List ℤ → ℤ) → ((ℕ → Ends) → Ends) → Type 0
 RangeLaw inputs given ranged = (a : List ℤ) (s : ℕ → Ends) → Each (λ u. lies_in (entry_at a u.0) (s u.0) ≡ true) inputs

@@ -107,6 +107,10 @@ AreAmong few many = Each (λ u. is_listed u many ≡ true) few
 abbrev pub WidthLaw : List VarId → ((ℕ → Ends) → ℕ) → ((ℕ → Ends) → Type 0) → Type 0
 WidthLaw vars size fits = (s : ℕ → Ends) → AreSmall vars s → size s ≤ 2 ^ 100 → fits s
 
+-- the size over smaller intervals of the measured variables is no larger
+abbrev pub SizeLaw : List VarId → ((ℕ → Ends) → ℕ) → Type 0
+SizeLaw measured size = (small large : ℕ → Ends) → AreWithin measured small large → size small ≤ size large
+
 -- a smaller box is refuted where a larger one is
 abbrev pub ShrinkLaw : (ℕ → Bool) → List VarId → ((ℕ → Start) → Bool) → Type 0
 ShrinkLaw inside vars refuted = (small large : ℕ → Start) → IsSmaller inside vars small large → refuted large ≡ true → refuted small ≡ true

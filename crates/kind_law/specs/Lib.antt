@@ -9,6 +9,7 @@ pub mod Next
 pub mod Output
 pub mod Reason
 pub mod Steps
+pub mod TotalLaws
 pub mod Visit
 pub use Rattle.dom_core.specs.Assignment
 pub use Rattle.dom_cells.specs.Box

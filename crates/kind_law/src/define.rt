@@ -13,7 +13,7 @@ pub trait Define: Kind {
     ghost use Rattle.dom_core.specs.declared.var_id.VarId.{VarId};
     ghost use Rattle.dom_core.specs.declared.view.Movement.{Movement};
     ghost use Rattle.kind_law.specs.Laws.{Each, AllBelow, AreAmong, points, befores, afters, IsTrueChange, FitsLaw};
-    ghost use Rattle.kind_law.specs.DefineLaws.{ApartLaw, ArePartsOf, PassLaw, InputWidthLaw, ValueLaw, InputLaw, RangeLaw, MonotoneLaw, OwnChangeLaw, FixesLaw, changed_of};
+    ghost use Rattle.kind_law.specs.DefineLaws.{ApartLaw, ArePartsOf, PassLaw, InputWidthLaw, ValueLaw, InputLaw, DefinedLaw, RangeLaw, MonotoneLaw, OwnChangeLaw, FixesLaw, changed_of};
 
     /// It has a functional shape: its output is a variable, and none of its inputs.
     ghost functional: { Self → Bool };
@@ -125,6 +125,9 @@ pub trait Define: Kind {
     /// The variables that are measured are inputs.
     ghost measured_inputs_law: { (k : Self) → functional k ≡ true → AreAmong (Self.measured k) (inputs k) };
 
+    /// The inputs are some of its variables, whether it has a functional shape or not.
+    ghost among_law: { (k : Self) → AreAmong (inputs k) (Self.vars k) };
+
     /// The output is none of the inputs.
     ghost apart_law: { (k : Self) → functional k ≡ true → ApartLaw (output k) (inputs k) };
 
@@ -136,6 +139,9 @@ pub trait Define: Kind {
 
     /// The value reads the inputs alone.
     ghost input_law: { (k : Self) → InputLaw (inputs k) (given k) };
+
+    /// Whether the function has a value reads the intervals of the inputs alone.
+    ghost defined_law: { (k : Self) → DefinedLaw (inputs k) (defined k) };
 
     /// The range covers every value that inputs within the intervals give.
     ghost range_law: { (k : Self) → RangeLaw (inputs k) (given k) (ranged k) };

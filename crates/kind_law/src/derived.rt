@@ -28,7 +28,10 @@ pub fn implied_ends_stay<K: Kind>(kind: &K)
 /// The change of an output lies between its ranges before and after, is 0 where no input moves, and holds every change
 /// that the view allows.
 pub fn changes_are_true<K: Define>(kind: &K)
-    ensures between { TrueLaw (K.inputs kind.now) (K.ranged kind.now) (changed_of (K.inputs kind.now) (K.ranged kind.now) (K.own_change kind.now)) }
-    ensures rest { RestLaw (K.inputs kind.now) (changed_of (K.inputs kind.now) (K.ranged kind.now) (K.own_change kind.now)) }
-    ensures holds { ChangeLaw (K.inputs kind.now) (K.given kind.now) (changed_of (K.inputs kind.now) (K.ranged kind.now) (K.own_change kind.now)) }
+    ensures between { TrueLaw (K.inputs kind.now) (K.ranged kind.now)
+        (changed_of (K.inputs kind.now) (K.ranged kind.now) (K.own_change kind.now)) }
+    ensures rest { RestLaw (K.inputs kind.now)
+        (changed_of (K.inputs kind.now) (K.ranged kind.now) (K.own_change kind.now)) }
+    ensures holds { ChangeLaw (K.inputs kind.now) (K.given kind.now)
+        (changed_of (K.inputs kind.now) (K.ranged kind.now) (K.own_change kind.now)) }
 {}

@@ -12,7 +12,7 @@ pub trait Kind {
     ghost use Rattle.dom_cells.specs.declared.start.Start.{Start};
     ghost use Rattle.dom_core.specs.declared.var_id.VarId.{VarId};
     ghost use Rattle.dom_core.specs.declared.view.Movement.{Movement};
-    ghost use Rattle.kind_law.specs.Laws.{Each, AllBelow, AllSane, points, hulls, befores, afters, IsTrueChange, IsUnmet, AreAmong, AreSmall, FitsLaw, WidthLaw, ShrinkLaw, FixedLaw, KeepLaw, StillLaw};
+    ghost use Rattle.kind_law.specs.Laws.{Each, AllBelow, AllSane, points, hulls, befores, afters, IsTrueChange, IsUnmet, AreAmong, AreSmall, FitsLaw, WidthLaw, SizeLaw, ShrinkLaw, FixedLaw, KeepLaw, StillLaw};
 
     /// The variables that it reads or defines, each once, in order of the arguments.
     ghost vars: { Self → List VarId };
@@ -88,6 +88,9 @@ pub trait Kind {
 
     /// The variables that are measured are some of its own.
     ghost measured_law: { (k : Self) → AreAmong (measured k) (vars k) };
+
+    /// The size over smaller intervals of these variables is no larger.
+    ghost size_law: { (k : Self) → SizeLaw (measured k) (size k) };
 
     /// A smaller box is refuted where a larger one is.
     ghost shrink_law: { (k : Self) → ShrinkLaw (inside k) (vars k) (refuted k) };

@@ -67,7 +67,8 @@ fn deepest<P: Probe>(probe: &P, cells: &Cells, var: VarId, side: Side) -> u64
     requires var { IsReadable (P.vars probe.now) (length cells.now.state.starts) var }
     requires answers { P.answers probe.now cells.now.state var }
     ensures sound { IsBox cells.now.state }
-    ensures deepest { IsDeepest (steps_refuted (P.refuted probe.now) (cell_of cells.now.state) var side) (size_of (cell_of cells.now.state var.0)) result }
+    ensures deepest { IsDeepest (steps_refuted (P.refuted probe.now) (cell_of cells.now.state) var side)
+        (size_of (cell_of cells.now.state var.0)) result }
 {
     let size = distance(cells, var);
     if size == 0 {
@@ -95,7 +96,8 @@ fn trimmed(cells: &Cells, var: VarId, side: Side, steps: u64) -> Literal
     requires var { var.0 < length cells.now.state.starts }
     requires some { 0 < steps }
     requires few { steps ≤ size_of (cell_of cells.now.state var.0) }
-    ensures { result ≡ trim side var (lo_of (cell_of cells.now.state var.0)) (hi_of (cell_of cells.now.state var.0)) steps }
+    ensures { result ≡ trim side var (lo_of (cell_of cells.now.state var.0))
+        (hi_of (cell_of cells.now.state var.0)) steps }
 {
     let lo = cells.lo(var);
     let hi = cells.hi(var);
@@ -117,7 +119,8 @@ fn trimmed(cells: &Cells, var: VarId, side: Side, steps: u64) -> Literal
 fn end_at(cells: &Cells, var: VarId, side: Side, steps: u64) -> Literal
     requires var { var.0 < length cells.now.state.starts }
     requires few { steps ≤ size_of (cell_of cells.now.state var.0) }
-    ensures { result ≡ end_literal side var (lo_of (cell_of cells.now.state var.0)) (hi_of (cell_of cells.now.state var.0)) steps }
+    ensures { result ≡ end_literal side var (lo_of (cell_of cells.now.state var.0))
+        (hi_of (cell_of cells.now.state var.0)) steps }
 {
     let lo = cells.lo(var);
     let hi = cells.hi(var);

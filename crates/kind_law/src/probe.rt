@@ -26,7 +26,8 @@ pub trait Probe {
     ghost answers: { Self → Box → VarId → Type 0 };
 
     fn is_refuted_within(&self, cells: &Cells, literal: Literal) -> bool
-        requires bound { IsBound (vars self.now) (length cells.now.state.starts) (cell_of cells.now.state) literal }
+        requires bound { IsBound (vars self.now) (length cells.now.state.starts) (cell_of cells.now.state)
+            literal }
         requires answers { answers self.now cells.now.state literal.var }
         requires sound { IsBox cells.now.state }
         ensures { result ≡ refuted self.now (kept (cell_of cells.now.state) literal) };

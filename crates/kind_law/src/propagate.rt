@@ -27,7 +27,8 @@ pub trait Propagate: Kind {
     ) -> Result<Visited, AllocError>
         requires below { AllBelow (length cells.now.state.starts) (Self.vars self.now) }
         requires fits { Self.fits self.now (hulls (cell_of cells.now.state)) }
-        ensures visited { IfOk result (λ v. IsVisited (Self.refuted self.now) (Self.vars self.now) (cell_of cells.now.state) (length cells.now.state.starts) v ends.new) }
+        ensures visited { IfOk result (λ v. IsVisited (Self.refuted self.now) (Self.vars self.now)
+            (cell_of cells.now.state) (length cells.now.state.starts) v ends.new) }
         ensures none { OnErr result (ends.new ≡ []) }
     {
         visit_of(self, cells, ends)

@@ -53,7 +53,8 @@ fn explain_all<K: Kind>(
 ) -> Result<(), AllocError>
     requires below { AllBelow (length cells.now.state.starts) (K.vars kind.now) }
     ensures fine { OnOk result (AddsFine cells.now.state out.old out.new) }
-    ensures covers { OnOk result (Each (λ u. CoversVar cells.now.state out.new (looks (K.inside kind.now) implied u.0) u.0) (K.vars kind.now)) }
+    ensures covers { OnOk result (Each (λ u. CoversVar cells.now.state out.new
+        (looks (K.inside kind.now) implied u.0) u.0) (K.vars kind.now)) }
 {
     for var in kind.vars() {
         let deep = is_deep(kind, implied, *var);

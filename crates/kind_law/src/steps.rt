@@ -70,7 +70,8 @@ pub fn furthest(cells: &Cells, var: VarId, side: Side, steps: u64) -> i64
 fn near_high(cells: &Cells, var: VarId, steps: u64) -> i64
     requires var { var.0 < length cells.now.state.starts }
     requires few { steps < size_of (cell_of cells.now.state var.0) }
-    ensures { IsCeiling (has_of (cell_of cells.now.state var.0)) (hi_of (cell_of cells.now.state var.0) -ℤ pos steps) result }
+    ensures { IsCeiling (has_of (cell_of cells.now.state var.0))
+        (hi_of (cell_of cells.now.state var.0) -ℤ pos steps) result }
 {
     let _lo = cells.lo(var);
     let hi = cells.hi(var);
@@ -81,7 +82,8 @@ fn near_high(cells: &Cells, var: VarId, steps: u64) -> i64
 fn near_low(cells: &Cells, var: VarId, steps: u64) -> i64
     requires var { var.0 < length cells.now.state.starts }
     requires few { steps < size_of (cell_of cells.now.state var.0) }
-    ensures { IsFloor (has_of (cell_of cells.now.state var.0)) (lo_of (cell_of cells.now.state var.0) +ℤ pos steps) result }
+    ensures { IsFloor (has_of (cell_of cells.now.state var.0))
+        (lo_of (cell_of cells.now.state var.0) +ℤ pos steps) result }
 {
     let lo = cells.lo(var);
     let _hi = cells.hi(var);

@@ -17,7 +17,8 @@ use std::alloc::AllocError;
 pub fn visit_of<K: Kind>(kind: &K, cells: &Cells, ends: &mut Clause) -> Result<Visited, AllocError>
     requires below { AllBelow (length cells.now.state.starts) (K.vars kind.now) }
     requires fits { K.fits kind.now (hulls (cell_of cells.now.state)) }
-    ensures visited { IfOk result (λ v. IsVisited (K.refuted kind.now) (K.vars kind.now) (cell_of cells.now.state) (length cells.now.state.starts) v ends.new) }
+    ensures visited { IfOk result (λ v. IsVisited (K.refuted kind.now) (K.vars kind.now)
+        (cell_of cells.now.state) (length cells.now.state.starts) v ends.new) }
     ensures none { OnErr result (ends.new ≡ []) }
 {
     ends.clear();
@@ -38,7 +39,8 @@ fn write_ends<K: Kind>(kind: &K, cells: &Cells, ends: &mut Clause) -> Result<(),
     requires below { AllBelow (length cells.now.state.starts) (K.vars kind.now) }
     requires fits { K.fits kind.now (hulls (cell_of cells.now.state)) }
     requires empty { ends.old ≡ [] }
-    ensures { OnOk result (AreEnds (K.refuted kind.now) (K.vars kind.now) (cell_of cells.now.state) (length cells.now.state.starts) ends.new) }
+    ensures { OnOk result (AreEnds (K.refuted kind.now) (K.vars kind.now) (cell_of cells.now.state)
+        (length cells.now.state.starts) ends.new) }
 {
     let _width = cells.width();
     for var in kind.vars() {

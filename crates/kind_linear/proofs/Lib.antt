@@ -1,6 +1,1 @@
-mod ArguedLaws
-mod KeepLaws
-mod OpenLaws
-mod ReplacedLaws
 pub mod SolvedLaws
-mod TruthNextLaws

@@ -1,9 +1,5 @@
 pub mod LinearOutput
 pub mod LinearOutputLaws
-pub mod LinearReified
-pub mod LinearReifiedLaws
-pub mod TruthNext
-pub mod Verdict
 pub use Rattle.dom_core.specs.Ends
 pub use Rattle.dom_core.specs.Assignment
 pub use Rattle.kind_law.specs.Laws

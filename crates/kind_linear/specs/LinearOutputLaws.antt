@@ -13,17 +13,17 @@ use Rattle.dom_core.proofs.TestLaws.{not_true}
 use Rattle.dom_core.specs.declared.var_id.VarId.{VarId}
 use Rattle.kind_sum.specs.declared.term.Term.{Term}
 use Rattle.std.proofs.lemmas.Bool.Decides.{Decides-eqb}
-use Rattle.kind_law.specs.Laws.{Each, EndsIn, AreAmong, AreSmall, small_ends, hulls, points, changes, FitsLaw, WidthLaw, ShrinkLaw, FixedLaw, KeepLaw, StillLaw}
+use Rattle.kind_law.specs.Laws.{Each, EndsIn, AreAmong, AreSmall, small_ends, hulls, points, changes, FitsLaw, WidthLaw, SizeLaw, ShrinkLaw, FixedLaw, KeepLaw, StillLaw}
 use Rattle.kind_law.specs.DefineLaws.{ApartLaw, ArePartsOf, PassLaw, InputWidthLaw, ValueLaw, InputLaw, RangeLaw, MonotoneLaw, OwnChangeLaw, FixesLaw}
 use Rattle.kind_law.proofs.EachLaws.{each_map}
 use Rattle.kind_sum.specs.SumRelationStill.{sum-still}
 use Rattle.kind_sum.specs.SumRelation.{sum_vars, SumFits, sum_met, sum_refuted, sum_kept}
 use Rattle.kind_sum.specs.SumRelationLaws.{sum-shrink, sum-fixed, sum-keep, sum_change}
-use Rattle.kind_sum.specs.InsertLaws.{total-insert, sum_at-insert, magnitude-insert, each-insert, join_arg, one_times, one_scaled, minus_scaled, sum_lies, sum_same, total_same}
+use Rattle.kind_sum.specs.InsertLaws.{total-insert, sum_at-insert, magnitude-insert, each-insert, one_times, one_scaled, minus_scaled, sum_lies, sum_same, total_same}
 use Rattle.kind_linear.specs.LinearOutput.{LinearOutput, sign_of, own_term, rest_of, inputs_of, relation_of, is_functional, turned_value, turned_ends, solved_value, solved_ends, OutputFits, InputsFit, output_given, output_range, output_own_change, output_size}
 use Rattle.kind_law.specs.Argument.{ArgHas, arg_ends, arg_change, is_listed}
 use Rattle.kind_sum.specs.Sum.{total, sum_at, magnitude, vars_of}
-use Rattle.kind_law.proofs.ArgumentLaws.{all_listed, each_distinct, each_listed, unlisted_apart}
+use Rattle.kind_law.proofs.ArgumentLaws.{all_listed, each_distinct, each_listed, join_arg, unlisted_apart}
 use Rattle.kind_sum.specs.SumLaws.{arg_has, total_within, magnitude_within, total_point, smaller_size}
 use Rattle.kind_law.specs.declared.argument.Reading.TheVariants.{Values}
 
@@ -180,11 +180,12 @@ output-fixes d f b a fixed all fits sane =
     ∙ same_test (lies_in d.bound (sum_ends (turned_ends d.turned (ends_of (b d.output.0))) (only (sum_at (rest_of d) a)))) (lies_in (output_given d a) (ends_of (b d.output.0)))
     (only_added d.turned d.bound (sum_at (rest_of d) a) (ends_of (b d.output.0))) (added_only d.turned d.bound (sum_at (rest_of d) a) (ends_of (b d.output.0))))
 
+pub output-size : (d : LinearOutput) → SizeLaw (inputs_of d) (output_size d)
+output-size d small large w =
+    magnitude_within (rest_of d) Values small large (each_listed (λ u. EndsIn (small u.0) (large u.0)) (vars_of (rest_of d)) w.parts)
+
 pub output-inputs : (d : LinearOutput) → FitsLaw (inputs_of d) (InputsFit d)
-output-inputs d small large w f =
-    let m : magnitude (rest_of d) (arg_ends small) ≤ magnitude (rest_of d) (arg_ends large) =
-    magnitude_within (rest_of d) Values small large (each_listed (λ u. EndsIn (small u.0) (large u.0)) (vars_of (rest_of d)) w.parts) in
-    omega arith
+output-inputs d small large w f = let m : output_size d small ≤ output_size d large = output-size d small large w in omega arith
 
 -- ---- how large the other terms are
 

@@ -36,7 +36,8 @@ impl Linear {
         bound: i64,
     ) -> Result<Linear, AllocError>
         requires { length coefs.now ≡ length args.now }
-        ensures { IfOk result (λ k. k ≡ record { terms = terms_of coefs.now args.now; relation = relation; bound = bound }) }
+        ensures { IfOk result (λ k. k
+            ≡ record { terms = terms_of coefs.now args.now; relation = relation; bound = bound }) }
     {
         let sum = SumRelation::new(alloc, coefs, args, relation, bound)?;
         Ok(Linear { sum })
@@ -73,7 +74,7 @@ impl Linear {
 impl Kind for Linear {
     ghost use Rattle.std.specs.Prelude.{false};
     ghost use Rattle.kind_sum.specs.SumRelation.{sum_vars, sum_size, SumFits, sum_met, sum_kept, sum_refuted};
-    ghost use Rattle.kind_sum.specs.SumRelationLaws.{sum-fits, sum-width, sum-measured, sum-shrink, sum-fixed, sum-keep};
+    ghost use Rattle.kind_sum.specs.SumRelationLaws.{sum-fits, sum-width, sum-measured, sum-size, sum-shrink, sum-fixed, sum-keep};
     ghost use Rattle.kind_sum.specs.SumRelationStill.{sum-still};
 
     ghost vars = { sum_vars };
@@ -121,6 +122,8 @@ impl Kind for Linear {
     ghost width_law = { sum-width };
 
     ghost measured_law = { sum-measured };
+
+    ghost size_law = { sum-size };
 
     ghost shrink_law = { sum-shrink };
 

@@ -29,9 +29,22 @@ impl Model for LinearOutput {
 
     ghost Value = { LinearOutput };
 
-    ghost view = { λ k. record { front = take k.place k.linear.terms; turned = k.turned; output = k.output; back = drop (k.place + 1) k.linear.terms; bound = k.linear.bound } };
+    ghost view = { λ k. record {
+      front = take k.place k.linear.terms;
+      turned = k.turned;
+      output = k.output;
+      back = drop (k.place + 1) k.linear.terms;
+      bound = k.linear.bound;
+    } };
 
-    ghost invariant = { λ k. IsSolvedParts k.linear k.others.items k.inputs.items (record { front = take k.place k.linear.terms; turned = k.turned; output = k.output; back = drop (k.place + 1) k.linear.terms; bound = k.linear.bound }) };
+    ghost invariant = { λ k. IsSolvedParts k.linear k.others.items k.inputs.items
+        (record {
+          front = take k.place k.linear.terms;
+          turned = k.turned;
+          output = k.output;
+          back = drop (k.place + 1) k.linear.terms;
+          bound = k.linear.bound;
+        }) };
 }
 
 impl LinearOutput {
@@ -91,7 +104,7 @@ impl Kind for LinearOutput {
     ghost use Rattle.kind_linear.specs.LinearOutputLaws.{output-still};
     ghost use Rattle.kind_sum.specs.SumRelation.{sum_vars, sum_met, sum_kept, sum_refuted};
     ghost use Rattle.kind_linear.specs.LinearOutput.{relation_of, inputs_of, output_size, OutputFits};
-    ghost use Rattle.kind_linear.specs.LinearOutputLaws.{output-fits, output-width, output-measured, output-shrink, output-fixed, output-keep};
+    ghost use Rattle.kind_linear.specs.LinearOutputLaws.{output-fits, output-width, output-measured, output-size, output-shrink, output-fixed, output-keep};
     ghost use Rattle.std.specs.Prelude.{false};
 
     ghost vars = { λ k. sum_vars (relation_of k) };
@@ -140,6 +153,8 @@ impl Kind for LinearOutput {
 
     ghost measured_law = { output-measured };
 
+    ghost size_law = { output-size };
+
     ghost shrink_law = { output-shrink };
 
     ghost fixed_law = { output-fixed };
@@ -176,7 +191,8 @@ impl Propagate for LinearOutput {
 impl Define for LinearOutput {
     ghost use Rattle.std.specs.Prelude.{true};
     ghost use Rattle.kind_linear.specs.LinearOutput.{inputs_of, is_functional, InputsFit, output_given, output_range, output_own_change};
-    ghost use Rattle.kind_linear.specs.LinearOutputLaws.{output-inputs, output-pass, output-input_width, output-measured_inputs, output-apart, output-parts, output-value, output-input, output-range, output-monotone, output-own_change, output-fixes};
+    ghost use Rattle.kind_law.specs.TotalLaws.{total_defined};
+    ghost use Rattle.kind_linear.specs.LinearOutputLaws.{output-measured, output-inputs, output-pass, output-input_width, output-measured_inputs, output-apart, output-parts, output-value, output-input, output-range, output-monotone, output-own_change, output-fixes};
 
     ghost functional = { is_functional };
 
@@ -233,6 +249,8 @@ impl Define for LinearOutput {
 
     ghost measured_inputs_law = { output-measured_inputs };
 
+    ghost among_law = { output-measured };
+
     ghost apart_law = { output-apart };
 
     ghost parts_law = { output-parts };
@@ -240,6 +258,8 @@ impl Define for LinearOutput {
     ghost value_law = { output-value };
 
     ghost input_law = { output-input };
+
+    ghost defined_law = { λ k. total_defined (inputs_of k) };
 
     ghost range_law = { output-range };
 

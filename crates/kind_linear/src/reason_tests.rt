@@ -106,47 +106,6 @@ fn told(
     told_over(rt, a, b, relation, bound, &cells)
 }
 
-/// The reason of the truth b of a relation of x, times `one`, and y, times `other`.
-fn truth_told_over(
-    rt: &HostRuntime,
-    one: i8,
-    other: i8,
-    relation: Relation,
-    bound: i64,
-    cells: &Cells,
-) -> Result<Clause, Fail>
-    requires { 3 ≤ length cells.now.state.starts }
-{
-    let _ends = (cells.lo(X), cells.hi(X), cells.lo(Y), cells.hi(Y));
-    let coefs = [one as i64, other as i64];
-    let args = [Arg::Var(X), Arg::Var(Y)];
-    let kind = LinearReified::new(rt.alloc(), &coefs, &args, relation, bound, Arg::Var(B))?;
-    let mut out = Clause::new(rt.alloc());
-    why(&kind, cells, &mut out)?;
-    Ok(out)
-}
-
-/// The reason of the truth b of a relation of x and y, which were 0 to 9 each.
-fn truth_told(
-    rt: &HostRuntime,
-    relation: Relation,
-    bound: i64,
-    x: (i64, i64),
-    y: (i64, i64),
-    truth: (i64, i64),
-) -> Result<Clause, Fail> {
-    let starts = [
-        Start::Span { lo: 0, hi: 9 },
-        Start::Span { lo: 0, hi: 9 },
-        Start::Span { lo: 0, hi: 1 },
-    ];
-    let mut cells = Cells::new(rt.alloc(), &starts)?;
-    put_between(&mut cells, X, x.0, x.1)?;
-    put_between(&mut cells, Y, y.0, y.1)?;
-    put_between(&mut cells, B, truth.0, truth.1)?;
-    truth_told_over(rt, 1, 1, relation, bound, &cells)
-}
-
 #[test]
 fn a_reason_tells_the_ends_that_the_sum_needs_but_for_its_slack(
     rt: HostRuntime,
@@ -166,19 +125,6 @@ fn a_reason_tells_the_ends_that_the_sum_needs_but_for_its_slack(
     let out = told(&rt, 1, 1, Relation::Differ, 5, (3, 3), (2, 2))?;
     let all = [at_most(X, 2), at_least(X, 4), at_most(Y, 1), at_least(Y, 3)];
     assert_eq!(rt; out.literals(), all.as_slice());
-    Ok(())
-}
-
-#[test]
-fn a_truth_is_told_by_one_end_of_each(rt: HostRuntime) -> Result<(), Fail> {
-    let out = truth_told(&rt, Relation::AtMost, 3, (0, 1), (0, 1), (0, 0))?;
-    let all = [at_least(B, 1), at_least(X, 2), at_least(Y, 2)];
-    assert_eq!(rt; out.literals(), all.as_slice());
-    let out = truth_told(&rt, Relation::AtMost, 3, (3, 9), (2, 9), (1, 1))?;
-    let all = [at_most(B, 0), at_most(X, 2), at_most(Y, 1)];
-    assert_eq!(rt; out.literals(), all.as_slice());
-    let out = truth_told(&rt, Relation::Differ, 3, (4, 9), (0, 9), (0, 1))?;
-    assert_eq!(rt; out.literals(), [at_most(X, 3), at_least(B, 1)].as_slice());
     Ok(())
 }
 

@@ -149,52 +149,12 @@ fn an_equation_is_solved_where_its_variable_stands_once(rt: HostRuntime) -> Resu
     for (place, can) in [(0, false), (1, true), (2, true), (3, false)] {
         assert_eq!(rt; linear.can_define(place), can, "place {place}");
     }
-    Ok(())
-}
-
-#[test]
-fn a_truth_is_met_where_its_relation_holds(rt: HostRuntime) -> Result<(), Fail> {
-    let args = [Arg::Var(X), Arg::Var(Y)];
-    let mut a = Assignment::zeros(rt.alloc(), 3)?;
-    a.set(X, 1);
-    a.set(Y, 2);
-    a.set(Z, 1);
-    for (relation, bound, met) in [
-        (Relation::AtMost, 8, true),
-        (Relation::AtMost, 7, false),
-        (Relation::Equal, 8, true),
-        (Relation::Equal, 7, false),
-        (Relation::Differ, 8, false),
-        (Relation::Differ, 7, true),
-    ] {
-        let kind = LinearReified::new(rt.alloc(), &[2, 3], &args, relation, bound, Arg::Var(Z))?;
-        assert_eq!(rt; kind.holds(&a), met, "{relation:?} {bound}");
-        assert_eq!(rt; kind.vars(), [X, Y, Z].as_slice());
-        assert!(rt; !kind.is_inside(Z));
-        shared(&kind);
+    shared(&linear);
+    if !linear.can_define(2) {
+        return Err("the coefficient -1 was refused".into());
     }
-    Ok(())
-}
-
-#[test]
-fn a_truth_that_is_certain_is_not_0(rt: HostRuntime) -> Result<(), Fail> {
-    let args = [Arg::Var(X), Arg::Var(Y)];
-    let starts = [
-        Start::Span { lo: 0, hi: 1 },
-        Start::Span { lo: 0, hi: 1 },
-        Start::Span { lo: 0, hi: 0 },
-    ];
-    let cells = Cells::new(rt.alloc(), &starts)?;
-    for (bound, refuted) in [(5, true), (4, false)] {
-        let kind = LinearReified::new(
-            rt.alloc(),
-            &[2, 3],
-            &args,
-            Relation::AtMost,
-            bound,
-            Arg::Var(Z),
-        )?;
-        assert_eq!(rt; kind.refutes(&cells), refuted, "at most {bound}");
-    }
+    let kind = LinearOutput::new(rt.alloc(), linear, 2)?;
+    assert!(rt; !kind.is_inside(Z), "a sum looks at ends alone");
+    shared(&kind);
     Ok(())
 }

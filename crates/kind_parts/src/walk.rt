@@ -37,14 +37,16 @@ pub trait Places {
     fn end_at(&self, cells: &Cells, place: usize) -> Option<Literal>
         requires place { place < length (args self.now) }
         requires answers { answers self.now cells.now.state }
-        ensures { IsArgEnd (refuted self.now) (cell_of cells.now.state) (arg_at (args self.now) place) result };
+        ensures { IsArgEnd (refuted self.now) (cell_of cells.now.state) (arg_at (args self.now) place)
+            result };
 }
 
 /// The first implied end, the arguments being taken in turn.
 pub fn first_in_turn<P: Places>(places: &P, cells: &Cells) -> Option<Literal>
     requires answers { P.answers places.now cells.now.state }
     requires single { are_distinct (variables_of (P.args places.now)) ≡ true }
-    ensures { IsNext (P.refuted places.now) (distinct (variables_of (P.args places.now))) (cell_of cells.now.state) result }
+    ensures { IsNext (P.refuted places.now) (distinct (variables_of (P.args places.now)))
+        (cell_of cells.now.state) result }
 {
     for at in 0..places.len() {
         let end = places.end_at(cells, at);
@@ -65,7 +67,8 @@ pub fn write_ends_in_turn<P: Places>(
     requires single { are_distinct (variables_of (P.args places.now)) ≡ true }
     requires below { AllBelow (length cells.now.state.starts) (distinct (variables_of (P.args places.now))) }
     requires empty { ends.old ≡ [] }
-    ensures { OnOk result (AreTold (P.refuted places.now) (distinct (variables_of (P.args places.now))) (cell_of cells.now.state) (length cells.now.state.starts) ends.new) }
+    ensures { OnOk result (AreTold (P.refuted places.now) (distinct (variables_of (P.args places.now)))
+        (cell_of cells.now.state) (length cells.now.state.starts) ends.new) }
 {
     let _width = cells.width();
     let count = places.len();

@@ -21,13 +21,13 @@ use Rattle.kind_law.specs.Argument.{ArgHas, arg_ends}
 use Rattle.kind_law.specs.Laws.{AllBelow, Each, EndsIn, hulls}
 use Rattle.kind_law.specs.Next.{below, above, IsLowEnd, IsHighEnd, HasNoEnd, HasNoHighEnd, HasNoLowEnd}
 use Rattle.kind_law.specs.Reason.{IsImplied}
-use Rattle.kind_law.specs.Visit.{AllImplied, AreEnds, IsBatch, IsQuiet, IsVisited, cut_box}
+use Rattle.kind_law.specs.Visit.{AllImplied, IsBatch, IsQuiet, IsVisited, cut_box}
 use Rattle.kind_law.specs.declared.visited.Visited.{Visited}
 use Rattle.kind_law.specs.declared.visited.Visited.TheVariants.{Ends as EndsTold}
 use Rattle.kind_law.proofs.BoundLaws.{box-sane}
 use Rattle.kind_law.proofs.ArgumentLaws.{each_distinct, same_var}
 use Rattle.kind_law.proofs.BoundLaws.{in_kept, kept_has, kept_holds, kept_sane}
-use Rattle.kind_sum.specs.InsertLaws.{join_arg}
+use Rattle.kind_law.proofs.ArgumentLaws.{join_arg}
 use Rattle.kind_sum.specs.SumRelation.{SumRelation, sum_vars, SumFits, sum_refuted, may_follow}
 use Rattle.kind_sum.specs.SumRelationLaws.{sum-fits}
 use Rattle.kind_parts.specs.Relation.{refuted_by}
@@ -464,24 +464,3 @@ pub told_visited : (k : SumRelation) (m : Box) (ls : List Literal) (empty : Bool
 told_visited k m ls empty v box below single fits stands told none e =
     subst (λ (w : Visited). IsVisited (sum_refuted k) (sum_vars k) (cell_of m) (length m.starts) w ls) (sym e)
     (told_batch k (cell_of m) (length m.starts) ls (may_follow k.relation && not empty) empty single fits (box-sane m (sum_vars k) box below) stands told none refl)
-
-no_length : (ls : List Literal) → (length ls == 0) ≡ true → ls ≡ []
-no_length [] h = refl
-no_length (l ∷ ls) h = let e : length (l ∷ ls) ≡ 0 = (Decides-eqb (length (l ∷ ls)) 0).0 h in absurd (omega arith)
-
--- a list that is told to be empty is
-pub nothing_left : (ls now : List Literal) (empty : Bool) → now ≡ ls → empty ≡ (length now == 0) → empty ≡ true → ls ≡ []
-nothing_left ls now empty e f h = no_length ls (ap (λ (ks : List Literal). length ks == 0) (sym e) ∙ sym f ∙ h)
-
-empty_from : (empty : Bool) → not empty ≡ false → empty ≡ true
-empty_from true h = refl
-empty_from false h = absurd (cc)
-
--- ends after which more may follow wherever there are some
-pub plain_batch : (refuted : (ℕ → Start) → Bool) (vars : List VarId) (b : ℕ → Start) (n : ℕ) (ls : List Literal) (empty : Bool) → refuted b ≡ false → AreEnds refuted vars b n ls
-    → (empty ≡ true → ls ≡ []) → IsBatch refuted vars b n (not empty) ls
-plain_batch refuted vars b n ls empty stands ends none = record {
-  stands = stands;
-  ends = ends;
-  last = λ h. subst (λ (ks : List Literal). IsQuiet refuted vars (cut_box b ks)) (sym (none (empty_from empty h))) (record { stands = stands; ends = ends.none (none (empty_from empty h)) });
-}

@@ -4,13 +4,15 @@ use Rattle.std.proofs.Common.{◌≡◌, ℕ, ◌+◌, true, List, [], ◌∷◌
 use Rattle.std.proofs.Math.IntN.{zero-*ℤ}
 use Rattle.std.proofs.lemmas.Int.{ints}
 use Rattle.dom_core.specs.Assignment.{entry_at}
-use Rattle.dom_core.specs.Ends.{Ends, only, lies_in, sum_ends, scaled_ends, size_of}
+use Rattle.dom_core.specs.Ends.{Ends, lies_in, sum_ends, scaled_ends, size_of}
 use Rattle.dom_core.specs.declared.arg.Arg.{Arg}
 use Rattle.dom_core.specs.declared.arg.Arg.TheVariants.{Var, Const}
 use Rattle.dom_core.specs.declared.var_id.VarId.{VarId}
 use Rattle.dom_core.proofs.ProductLaws.{scaled_has, neg_one-times, pos_suc-times}
 use Rattle.kind_law.specs.Laws.{Each}
-use Rattle.kind_law.specs.Argument.{arg_ends, arg_value, ArgHas, with_arg}
+use Rattle.kind_law.specs.Argument.{arg_ends, arg_value, ArgHas}
+use Rattle.kind_law.proofs.ArgumentLaws.{join_arg}
+use Rattle.kind_law.proofs.ValueLaws.{arg_lies, arg_same}
 use Rattle.kind_sum.specs.Sum.{total, sum_at, magnitude, vars_of}
 use Rattle.kind_sum.specs.SumLaws.{arg_has}
 use Rattle.kind_sum.specs.declared.term.Term.{Term}
@@ -47,10 +49,6 @@ magnitude-insert (s ∷ front) back t f =
     ap (λ (n : ℕ). size_of (scaled_ends s.coef (f s.arg)) + n) (magnitude-insert front back t f)
     ∙ swapped_size (size_of (scaled_ends s.coef (f s.arg))) (size_of (scaled_ends t.coef (f t.arg))) (magnitude (front ++ back) f)
 
-pub join_arg : (P : VarId → Type 0) (x : Arg) (vs : List VarId) → ArgHas P x → Each P vs → Each P (with_arg x vs)
-join_arg P (Var x) vs h g = (h, g)
-join_arg P (Const c) vs h g = g
-
 -- what holds of all variables holds of the picked term's and of the others'
 pub each-insert : (P : VarId → Type 0) (front back : List Term) (t : Term) → Each P (vars_of (front ++ t ∷ back))
     → ArgHas P t.arg × Each P (vars_of (front ++ back))
@@ -76,10 +74,6 @@ minus_scaled e = same_ends (scaled_ends (negsuc 0) e) (record { lo = pos 0 -ℤ 
 
 -- ---- sums within intervals
 
-arg_lies : (s : ℕ → Ends) (a : List ℤ) (x : Arg) → ArgHas (λ u. lies_in (entry_at a u.0) (s u.0) ≡ true) x → lies_in (arg_value a x) (arg_ends s x) ≡ true
-arg_lies s a (Var x) h = h
-arg_lies s a (Const c) h = lies c (only c) (omega (arith, ints)) (omega (arith, ints))
-
 -- the sum lies where the variables' values lie in their intervals
 pub sum_lies : (ts : List Term) (s : ℕ → Ends) (a : List ℤ) → Each (λ u. lies_in (entry_at a u.0) (s u.0) ≡ true) (vars_of ts)
     → lies_in (sum_at ts a) (total ts (arg_ends s)) ≡ true
@@ -94,10 +88,6 @@ sum_lies (t ∷ ts) s a h =
     lies (sum_at (t ∷ ts) a) (total (t ∷ ts) (arg_ends s)) (omega (arith, ints, part.0)) (omega (arith, ints, part.1))
 
 -- the sum reads its variables alone
-arg_same : (a b : List ℤ) (x : Arg) → ArgHas (λ u. entry_at a u.0 ≡ entry_at b u.0) x → arg_value a x ≡ arg_value b x
-arg_same a b (Var x) h = h
-arg_same a b (Const c) h = refl
-
 pub sum_same : (ts : List Term) (a b : List ℤ) → Each (λ u. entry_at a u.0 ≡ entry_at b u.0) (vars_of ts) → sum_at ts a ≡ sum_at ts b
 sum_same [] a b h = refl
 sum_same (t ∷ ts) a b h =

@@ -1,43 +1,32 @@
 -- The laws of linear relations.
 use Rattle.dom_core.proofs.EndsLaws.{lies_low, lies_high, lies}
-use Rattle.std.proofs.Common.{◌≡◌, ℕ, ◌≤◌, ◌^◌, true, false, List, [], ◌∷◌, ℤ, pos, ◌-ℤ◌, ◌*ℤ◌, ◌≤ℤ◌, refl, ◌∙◌, ap, arith}
+use Rattle.std.proofs.Common.{◌≡◌, ℕ, ◌≤◌, ◌^◌, true, false, List, [], ◌∷◌, ℤ, ◌-ℤ◌, ◌*ℤ◌, ◌≤ℤ◌, refl, ◌∙◌, ap, arith}
 use Rattle.std.proofs.lemmas.Int.{ints}
-use Rattle.dom_core.specs.Ends.{Ends, only, lies_in}
+use Rattle.dom_core.specs.Ends.{Ends, lies_in}
 use Rattle.dom_core.specs.View.{IsCovered}
-use Rattle.dom_core.specs.declared.arg.Arg.{Arg}
-use Rattle.dom_core.specs.declared.arg.Arg.TheVariants.{Var, Const}
 use Rattle.dom_core.specs.declared.view.Movement.{Movement}
 use Rattle.dom_core.proofs.ProductLaws.{scaled_has}
-use Rattle.kind_law.specs.Laws.{Each, EndsIn, AreWithin, AreAmong, hulls, changes, afters, FitsLaw, WidthLaw, ShrinkLaw, FixedLaw, KeepLaw}
+use Rattle.kind_law.specs.Laws.{Each, EndsIn, AreWithin, AreAmong, hulls, changes, afters, FitsLaw, WidthLaw, SizeLaw, ShrinkLaw, FixedLaw, KeepLaw}
 use Rattle.kind_law.proofs.BoundLaws.{smaller-within}
 use Rattle.kind_parts.proofs.RelationLaws.{refuted_smaller, refuted_only, kept_related}
-use Rattle.dom_core.proofs.EndsLaws.{lies_low, lies_high, lies}
 use Rattle.kind_sum.specs.SumRelation.{SumRelation, sum_vars, sum_size, SumFits, sum_met, sum_refuted, sum_kept}
 use Rattle.kind_parts.specs.Relation.{refuted_by}
-use Rattle.kind_law.specs.Argument.{arg_ends, arg_change, arg_value, ArgHas}
-use Rattle.kind_sum.specs.Sum.{total, sum_at, magnitude, vars_of}
+use Rattle.kind_law.specs.Argument.{arg_ends, arg_change, arg_value}
+use Rattle.kind_sum.specs.Sum.{total, sum_at, vars_of}
 use Rattle.kind_law.specs.declared.argument.Reading.TheVariants.{Values}
 use Rattle.kind_sum.specs.declared.term.Term.{Term}
 use Rattle.kind_law.proofs.ArgumentLaws.{all_listed, each_listed}
+use Rattle.kind_law.proofs.ValueLaws.{value_after, value_moves}
 use Rattle.kind_sum.specs.SumLaws.{arg_has, times_difference, total_within, magnitude_within, total_point}
 
 -- ---- covered sums
-
-covered_after : (view : List Movement) (a b : List ℤ) (x : Arg) → ArgHas (λ u. IsCovered view a b u.0) x → lies_in (arg_value b x) (arg_ends (afters view) x) ≡ true
-covered_after view a b (Var x) h = h.after
-covered_after view a b (Const c) h = lies c (only c) (omega (arith, ints)) (omega (arith, ints))
-
-covered_change : (view : List Movement) (a b : List ℤ) (x : Arg) → ArgHas (λ u. IsCovered view a b u.0) x
-    → lies_in (arg_value b x -ℤ arg_value a x) (arg_change (changes view) x) ≡ true
-covered_change view a b (Var x) h = h.change
-covered_change view a b (Const c) h = lies (c -ℤ c) (only (pos 0)) (omega (arith, ints)) (omega (arith, ints))
 
 pub sum_after : (ts : List Term) (view : List Movement) (a b : List ℤ) → Each (λ u. IsCovered view a b u.0) (vars_of ts)
     → lies_in (sum_at ts b) (total ts (arg_ends (afters view))) ≡ true
 sum_after [] view a b h = refl
 sum_after (t ∷ ts) view a b h =
     let both = arg_has (λ u. IsCovered view a b u.0) t ts h in
-    let here : lies_in (arg_value b t.arg) (arg_ends (afters view) t.arg) ≡ true = covered_after view a b t.arg both.0 in
+    let here : lies_in (arg_value b t.arg) (arg_ends (afters view) t.arg) ≡ true = value_after view a b t.arg both.0 in
     let s = scaled_has t.coef (arg_ends (afters view) t.arg) (arg_value b t.arg) (lies_low (arg_value b t.arg) (arg_ends (afters view) t.arg) here) (lies_high (arg_value b t.arg) (arg_ends (afters view) t.arg) here) in
     let rest : lies_in (sum_at ts b) (total ts (arg_ends (afters view))) ≡ true = sum_after ts view a b both.1 in
     let low : (total ts (arg_ends (afters view))).lo ≤ℤ sum_at ts b = lies_low (sum_at ts b) (total ts (arg_ends (afters view))) rest in
@@ -49,7 +38,7 @@ pub sum_change : (ts : List Term) (view : List Movement) (a b : List ℤ) → Ea
 sum_change [] view a b h = refl
 sum_change (t ∷ ts) view a b h =
     let both = arg_has (λ u. IsCovered view a b u.0) t ts h in
-    let here : lies_in (arg_value b t.arg -ℤ arg_value a t.arg) (arg_change (changes view) t.arg) ≡ true = covered_change view a b t.arg both.0 in
+    let here : lies_in (arg_value b t.arg -ℤ arg_value a t.arg) (arg_change (changes view) t.arg) ≡ true = value_moves view a b t.arg both.0 in
     let s = scaled_has t.coef (arg_change (changes view) t.arg) (arg_value b t.arg -ℤ arg_value a t.arg)
     (lies_low (arg_value b t.arg -ℤ arg_value a t.arg) (arg_change (changes view) t.arg) here) (lies_high (arg_value b t.arg -ℤ arg_value a t.arg) (arg_change (changes view) t.arg) here) in
     let e : (t.coef *ℤ (arg_value b t.arg -ℤ arg_value a t.arg)) ≡ ((t.coef *ℤ arg_value b t.arg) -ℤ (t.coef *ℤ arg_value a t.arg)) =
@@ -61,11 +50,12 @@ sum_change (t ∷ ts) view a b h =
 
 -- ---- the laws
 
+pub sum-size : (k : SumRelation) → SizeLaw (sum_vars k) (sum_size k)
+sum-size k small large w =
+    magnitude_within k.terms Values small large (each_listed (λ u. EndsIn (small u.0) (large u.0)) (vars_of k.terms) w.parts)
+
 pub sum-fits : (k : SumRelation) → FitsLaw (sum_vars k) (SumFits k)
-sum-fits k small large w f =
-    let m : magnitude k.terms (arg_ends small) ≤ magnitude k.terms (arg_ends large) =
-    magnitude_within k.terms Values small large (each_listed (λ u. EndsIn (small u.0) (large u.0)) (vars_of k.terms) w.parts) in
-    omega arith
+sum-fits k small large w f = let m : sum_size k small ≤ sum_size k large = sum-size k small large w in omega arith
 
 pub at_most : (n : ℕ) → n ≤ 2 ^ 100 → n ≤ 2 ^ 101
 at_most n h = omega arith

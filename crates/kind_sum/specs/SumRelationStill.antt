@@ -3,13 +3,12 @@ use Rattle.std.proofs.Common.{◌≡◌, List, [], ◌∷◌, ℤ, pos, true, re
 use Rattle.std.proofs.Math.IntN.{*ℤ-zero}
 use Rattle.dom_core.specs.Ends.{Ends, only, sum_ends, scaled_ends}
 use Rattle.dom_core.specs.View.{movement_at}
-use Rattle.dom_core.specs.declared.arg.Arg.{Arg}
-use Rattle.dom_core.specs.declared.arg.Arg.TheVariants.{Var, Const}
 use Rattle.dom_core.specs.declared.view.Movement.{Movement}
 use Rattle.kind_law.specs.Laws.{Each, StillLaw, afters, changes}
-use Rattle.kind_law.specs.Argument.{ArgHas, arg_change, arg_ends}
+use Rattle.kind_law.specs.Argument.{arg_change, arg_ends}
 use Rattle.kind_law.proofs.ArgumentLaws.{each_listed}
 use Rattle.kind_law.proofs.OutputLaws.{each_still}
+use Rattle.kind_law.proofs.ValueLaws.{arg_stays}
 use Rattle.kind_sum.specs.SumRelation.{SumRelation, sum_vars, sum_kept}
 use Rattle.kind_parts.specs.Relation.{kept_by}
 use Rattle.kind_sum.specs.Sum.{total, vars_of}
@@ -18,10 +17,6 @@ use Rattle.dom_core.specs.declared.relation.Relation.{Relation}
 use Rattle.dom_core.specs.declared.relation.Relation.TheVariants.{AtMost, Equal, Differ}
 use Rattle.kind_sum.specs.declared.term.Term.{Term}
 
-arg_zero : (view : List Movement) (x : Arg) → ArgHas (λ u. (movement_at view u.0).change ≡ only (pos 0)) x → arg_change (changes view) x ≡ only (pos 0)
-arg_zero view (Var u) h = h
-arg_zero view (Const c) h = refl
-
 no_multiple : (c : ℤ) → scaled_ends c (only (pos 0)) ≡ only (pos 0)
 no_multiple c = scaled_only c (pos 0) ∙ ap only (*ℤ-zero c)
 
@@ -29,7 +24,7 @@ total_zero : (ts : List Term) (view : List Movement) → Each (λ u. (movement_a
 total_zero [] view h = refl
 total_zero (t ∷ ts) view h =
     let both = arg_has (λ u. (movement_at view u.0).change ≡ only (pos 0)) t ts h in
-    ap (λ (e : Ends). sum_ends (scaled_ends t.coef e) (total ts (arg_change (changes view)))) (arg_zero view t.arg both.0)
+    ap (λ (e : Ends). sum_ends (scaled_ends t.coef e) (total ts (arg_change (changes view)))) (arg_stays view t.arg both.0)
     ∙ ap (λ (e : Ends). sum_ends e (total ts (arg_change (changes view)))) (no_multiple t.coef)
     ∙ ap (λ (e : Ends). sum_ends (only (pos 0)) e) (total_zero ts view both.1)
 

@@ -116,7 +116,8 @@ pub fn explain_sum(
     requires below { AllBelow (length cells.now.state.starts) (vars_of terms.now) }
     requires open { IsOpen (cell_of cells.now.state) implied }
     ensures fine { OnOk result (AddsFine cells.now.state out.old out.new) }
-    ensures pays { OnOk result (PaysAll excess.turned cells.now.state implied out.new terms.now (pos excess.slack)) }
+    ensures pays { OnOk result (PaysAll excess.turned cells.now.state implied out.new terms.now
+        (pos excess.slack)) }
 {
     let mut left = excess.slack;
     for term in terms {
@@ -137,7 +138,8 @@ fn explain_term(
     requires below { ArgHas (λ u. u.0 < length cells.now.state.starts) term.arg }
     requires open { IsOpen (cell_of cells.now.state) implied }
     ensures fine { OnOk result (AddsFine cells.now.state out.old out.new) }
-    ensures pays { IfOk result (λ left. Pays turned cells.now.state implied out.new term (pos slack -ℤ pos left)) }
+    ensures pays { IfOk result (λ left. Pays turned cells.now.state implied out.new term
+        (pos slack -ℤ pos left)) }
 {
     match term.arg {
         Arg::Const(_) => Ok(slack),
@@ -158,7 +160,8 @@ fn explain_var(
     requires below { var.0 < length cells.now.state.starts }
     requires open { IsOpen (cell_of cells.now.state) implied }
     ensures fine { OnOk result (AddsFine cells.now.state out.old out.new) }
-    ensures pays { IfOk result (λ left. Pays turned cells.now.state implied out.new (record { coef = coef; arg = Var var }) (pos slack -ℤ pos left)) }
+    ensures pays { IfOk result (λ left. Pays turned cells.now.state implied out.new
+        (record { coef = coef; arg = Var var }) (pos slack -ℤ pos left)) }
 {
     let side = edge_side(turned, coef);
     let price = price_of(coef, reach(cells, implied, side, var));

@@ -27,7 +27,8 @@ impl Slack<'_> {
     pub(crate) fn first_end(&self, cells: &Cells, var: VarId) -> Option<Literal>
         requires var { var.0 < length cells.now.state.starts }
         requires below { AllBelow (length cells.now.state.starts) (sum_vars self.now.linear.now) }
-        requires slack { IsSlack self.now.linear.now self.now.coef self.now.total (cell_of cells.now.state) var }
+        requires slack { IsSlack self.now.linear.now self.now.coef self.now.total (cell_of cells.now.state)
+            var }
         requires quiet { sum_refuted self.now.linear.now (cell_of cells.now.state) ≡ false }
         ensures { IsFirstEnd (sum_refuted self.now.linear.now) (cell_of cells.now.state) var result }
     {
@@ -41,7 +42,8 @@ impl Slack<'_> {
     fn low_end(&self, cells: &Cells, var: VarId) -> Option<Literal>
         requires var { var.0 < length cells.now.state.starts }
         requires below { AllBelow (length cells.now.state.starts) (sum_vars self.now.linear.now) }
-        requires slack { IsSlack self.now.linear.now self.now.coef self.now.total (cell_of cells.now.state) var }
+        requires slack { IsSlack self.now.linear.now self.now.coef self.now.total (cell_of cells.now.state)
+            var }
         requires quiet { sum_refuted self.now.linear.now (cell_of cells.now.state) ≡ false }
         ensures { IsImpliedLow (sum_refuted self.now.linear.now) (cell_of cells.now.state) var result }
     {
@@ -53,7 +55,8 @@ impl Slack<'_> {
     fn high_end(&self, cells: &Cells, var: VarId) -> Option<Literal>
         requires var { var.0 < length cells.now.state.starts }
         requires below { AllBelow (length cells.now.state.starts) (sum_vars self.now.linear.now) }
-        requires slack { IsSlack self.now.linear.now self.now.coef self.now.total (cell_of cells.now.state) var }
+        requires slack { IsSlack self.now.linear.now self.now.coef self.now.total (cell_of cells.now.state)
+            var }
         requires quiet { sum_refuted self.now.linear.now (cell_of cells.now.state) ≡ false }
         ensures { IsImpliedHigh (sum_refuted self.now.linear.now) (cell_of cells.now.state) var result }
     {
@@ -65,9 +68,12 @@ impl Slack<'_> {
     fn reach(&self, cells: &Cells, var: VarId, rises: bool) -> Option<u64>
         requires var { var.0 < length cells.now.state.starts }
         requires below { AllBelow (length cells.now.state.starts) (sum_vars self.now.linear.now) }
-        requires slack { IsSlack self.now.linear.now self.now.coef self.now.total (cell_of cells.now.state) var }
+        requires slack { IsSlack self.now.linear.now self.now.coef self.now.total (cell_of cells.now.state)
+            var }
         requires quiet { sum_refuted self.now.linear.now (cell_of cells.now.state) ≡ false }
-        ensures reach { IsStepReach (is_pulled_off self.now.linear.now.relation self.now.total self.now.linear.now.bound (pull_of rises self.now.coef (cell_of cells.now.state var.0))) (size_of (cell_of cells.now.state var.0)) result }
+        ensures reach { IsStepReach (is_pulled_off self.now.linear.now.relation self.now.total
+            self.now.linear.now.bound (pull_of rises self.now.coef (cell_of cells.now.state var.0)))
+            (size_of (cell_of cells.now.state var.0)) result }
         ensures sound { IsBox cells.now.state }
     {
         let pull = Pull {

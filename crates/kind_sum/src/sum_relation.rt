@@ -41,7 +41,8 @@ impl Model for SumRelation {
 
     ghost view = { λ k. record { terms = k.terms.items; relation = k.relation; bound = k.bound } };
 
-    ghost invariant = { λ k. IsKept k.vars.items k.single (record { terms = k.terms.items; relation = k.relation; bound = k.bound }) };
+    ghost invariant = { λ k. IsKept k.vars.items k.single
+        (record { terms = k.terms.items; relation = k.relation; bound = k.bound }) };
 }
 
 impl SumRelation {
@@ -65,7 +66,8 @@ impl SumRelation {
         bound: i64,
     ) -> Result<SumRelation, AllocError>
         requires { length coefs.now ≡ length args.now }
-        ensures { IfOk result (λ k. k ≡ record { terms = terms_of coefs.now args.now; relation = relation; bound = bound }) }
+        ensures { IfOk result (λ k. k
+            ≡ record { terms = terms_of coefs.now args.now; relation = relation; bound = bound }) }
     {
         let terms = pair_up(alloc, coefs, args)?;
         let vars = term_vars(alloc, terms.as_slice())?;
@@ -137,7 +139,8 @@ impl SumRelation {
         requires fits { SumFits self.now (hulls (cell_of cells.now.state)) }
         requires quiet { sum_refuted self.now (cell_of cells.now.state) ≡ false }
         requires empty { ends.old ≡ [] }
-        ensures visited { IfOk result (λ v. IsVisited (sum_refuted self.now) (sum_vars self.now) (cell_of cells.now.state) (length cells.now.state.starts) v ends.new) }
+        ensures visited { IfOk result (λ v. IsVisited (sum_refuted self.now) (sum_vars self.now)
+            (cell_of cells.now.state) (length cells.now.state.starts) v ends.new) }
         ensures none { OnErr result (ends.new ≡ []) }
     {
         let _width = cells.width();
@@ -171,7 +174,7 @@ impl SumRelation {
 impl Kind for SumRelation {
     ghost use Rattle.kind_sum.specs.SumRelationStill.{sum-still};
     ghost use Rattle.kind_sum.specs.SumRelation.{sum_vars, sum_size, SumFits, sum_met, sum_kept, sum_refuted};
-    ghost use Rattle.kind_sum.specs.SumRelationLaws.{sum-fits, sum-width, sum-measured, sum-shrink, sum-fixed, sum-keep};
+    ghost use Rattle.kind_sum.specs.SumRelationLaws.{sum-fits, sum-width, sum-measured, sum-size, sum-shrink, sum-fixed, sum-keep};
     ghost use Rattle.std.specs.Prelude.{false};
 
     ghost vars = { sum_vars };
@@ -226,6 +229,8 @@ impl Kind for SumRelation {
     ghost width_law = { sum-width };
 
     ghost measured_law = { sum-measured };
+
+    ghost size_law = { sum-size };
 
     ghost shrink_law = { sum-shrink };
 

@@ -1,8 +1,8 @@
 use Rattle.kind_bool.proofs.ClauseLaws.{clause_kept_is}
 use Rattle.std.proofs.Common.{◌∙◌, ap, List}
 use Rattle.kind_parts.specs.Vars.{gathered, variables_of}
-use Rattle.kind_bool.specs.Operand.{arguments_of}
-use Rattle.kind_bool.specs.declared.operand.Operand.{Operand}
+use Rattle.kind_truths.specs.Operand.{arguments_of}
+use Rattle.kind_truths.specs.declared.operand.Operand.{Operand}
 use Rattle.kind_bool.proofs.clause.BoolClause.new.Goals as goal
 
 pub invariant_of-result : goal.invariant_of-result

@@ -2,8 +2,8 @@ use Rattle.std.proofs.Common.{subst, ℕ, Bool, length, IfOk}
 use Rattle.dom_cells.specs.Box.{cell_of}
 use Rattle.dom_cells.specs.declared.start.Start.{Start}
 use Rattle.kind_law.specs.Visit.{IsVisited}
-use Rattle.kind_bool.specs.Operand.{operand_vars}
-use Rattle.kind_bool.specs.Connective.{Connective, connective_refuted, connective_vars}
+use Rattle.kind_truths.specs.Operand.{operand_vars}
+use Rattle.kind_truths.specs.Connective.{Connective, connective_refuted, connective_vars}
 use Rattle.kind_bool.proofs.ClauseLaws.{clause_truth}
 use Rattle.kind_bool.proofs.clause.BoolClausePropagate.visit.Goals as goal
 

@@ -1,8 +1,8 @@
 use Rattle.std.proofs.Common.{◌∙◌, ap, not, List, Bool}
 use Rattle.std.specs.List.{list_any}
-use Rattle.kind_bool.specs.Connective.{Connective, move_ends, connective_own_change}
-use Rattle.kind_bool.specs.Operand.{operand_moves}
-use Rattle.kind_bool.specs.declared.operand.Operand.{Operand}
+use Rattle.kind_truths.specs.Connective.{Connective, move_ends, connective_own_change}
+use Rattle.kind_truths.specs.Operand.{operand_moves}
+use Rattle.kind_truths.specs.declared.operand.Operand.{Operand}
 use Rattle.kind_bool.proofs.ClauseLaws.{moves_turned}
 use Rattle.kind_bool.proofs.connective.Connective.moves.Goals as goal
 

@@ -2,8 +2,8 @@ use Rattle.std.proofs.Common.{◌∙◌, ◌&&◌, ap, List}
 use Rattle.dom_core.specs.declared.var_id.VarId.{VarId}
 use Rattle.kind_law.specs.Argument.{with_new_arg, is_new}
 use Rattle.kind_parts.specs.Vars.{gathered, variables_of}
-use Rattle.kind_bool.specs.Operand.{arguments_of}
-use Rattle.kind_bool.specs.declared.operand.Operand.{Operand}
+use Rattle.kind_truths.specs.Operand.{arguments_of}
+use Rattle.kind_truths.specs.declared.operand.Operand.{Operand}
 use Rattle.kind_bool.proofs.ClauseLaws.{connective_kept_is}
 use Rattle.kind_bool.proofs.connective.Connective.of.Goals as goal
 

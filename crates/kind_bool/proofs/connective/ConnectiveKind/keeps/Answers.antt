@@ -4,7 +4,7 @@ use Rattle.kind_law.specs.Argument.{ArgHas, arg_movement}
 use Rattle.kind_law.specs.Function.{function_kept}
 use Rattle.kind_law.specs.Output.{moved}
 use Rattle.kind_law.proofs.ArgumentLaws.{each_new_arg}
-use Rattle.kind_bool.specs.Connective.{Connective, connective_inputs, connective_range, connective_changed}
+use Rattle.kind_truths.specs.Connective.{Connective, connective_inputs, connective_range, connective_changed}
 use Rattle.kind_bool.proofs.connective.ConnectiveKind.keeps.Goals as goal
 
 pub movement-truth-requires : goal.movement-truth-requires

@@ -4,7 +4,7 @@ use Rattle.dom_cells.specs.Cell.{IsSane}
 use Rattle.kind_law.specs.Function.{have_none}
 use Rattle.kind_law.specs.Laws.{hulls}
 use Rattle.kind_law.proofs.ArgumentLaws.{each_new_arg}
-use Rattle.kind_bool.specs.Connective.{connective_inputs, connective_range}
+use Rattle.kind_truths.specs.Connective.{connective_inputs, connective_range}
 use Rattle.kind_bool.proofs.connective.ConnectiveKind.refutes_in.Goals as goal
 
 pub truths-truth-requires-clause-below : goal.truths-truth-requires-clause-below

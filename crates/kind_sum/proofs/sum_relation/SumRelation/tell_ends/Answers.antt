@@ -1,7 +1,8 @@
 use Rattle.std.proofs.Common.{◌∙◌, ◌&&◌, not, ap}
 use Rattle.kind_law.specs.declared.visited.Visited.TheVariants.{Ends}
 use Rattle.kind_sum.specs.SumRelation.{may_follow}
-use Rattle.kind_sum.proofs.QuietLaws.{nothing_left, told_visited}
+use Rattle.kind_law.proofs.VisitLaws.{nothing_left}
+use Rattle.kind_sum.proofs.QuietLaws.{told_visited}
 use Rattle.kind_sum.proofs.sum_relation.SumRelation.tell_ends.Goals as goal
 
 pub returns-clause-visited : goal.returns-clause-visited

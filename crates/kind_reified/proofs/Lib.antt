@@ -1,0 +1,5 @@
+mod ArguedLaws
+mod KeepLaws
+mod OpenLaws
+mod ReplacedLaws
+mod TruthNextLaws

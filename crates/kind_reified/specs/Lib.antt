@@ -1,0 +1,13 @@
+pub mod LinearReified
+pub mod LinearReifiedLaws
+pub mod TruthNext
+pub mod Verdict
+pub use Rattle.dom_core.specs.Ends
+pub use Rattle.dom_core.specs.Assignment
+pub use Rattle.kind_law.specs.Laws
+pub use Rattle.kind_law.specs.DefineLaws
+pub use Rattle.kind_law.specs.Function
+pub use Rattle.kind_parts.specs.Relation
+pub use Rattle.kind_parts.specs.Vars
+pub use Rattle.kind_sum.specs.Sum
+pub use Rattle.kind_sum.specs.SumRelation

@@ -1,0 +1,16 @@
+pub mod Operand
+pub mod BoolClause
+pub mod Connective
+pub mod Plan
+pub mod Told
+pub mod OperandLaws
+pub mod BoolClauseLaws
+pub mod ConnectiveLaws
+pub use Rattle.dom_core.specs.Ends
+pub use Rattle.dom_core.specs.Assignment
+pub use Rattle.kind_law.specs.Laws
+pub use Rattle.kind_law.specs.DefineLaws
+pub use Rattle.kind_law.specs.Function
+pub use Rattle.kind_law.specs.Output
+pub use Rattle.kind_parts.specs.Relation
+pub use Rattle.kind_parts.specs.Vars
