@@ -10,7 +10,7 @@ use Rattle.dom_domains.specs.Allowed.{Allows, EachAllowed, values_of}
 use Rattle.dom_domains.specs.Faults.{IsOpen}
 use Rattle.dom_domains.specs.Restrictions.{AreRestrictionsFrom, IsRestrictedBy, IsRestriction, set_of}
 use Rattle.dom_domains.specs.FreeDomains.{free_domains}
-use Rattle.dom_network.specs.Completion.{MeetsEach}
+use Rattle.any_kind.specs.Meets.{MeetsEach}
 use Rattle.dom_network.specs.Free.{IsTuple, free_from}
 
 -- each free variable is declared with some of the integers

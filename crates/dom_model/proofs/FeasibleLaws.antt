@@ -12,7 +12,7 @@ use Rattle.dom_model.specs.Least.{IsFeasible}
 use Rattle.dom_model.specs.Problem.{Problem}
 use Rattle.dom_model.specs.Sound.{FeasibleIsCompleted, IsSound}
 use Rattle.dom_model.proofs.AllowedLaws.{AreClosed, all_allowed, allowed_tuple, meets_split}
-use Rattle.dom_network.specs.Completion.{MeetsEach}
+use Rattle.any_kind.specs.Meets.{MeetsEach}
 use Rattle.dom_network.specs.Free.{IsTuple, free_from, free_values}
 use Rattle.dom_network.specs.NetworkLaws.{AdmittedIsCompleted}
 

@@ -8,7 +8,7 @@ use Rattle.dom_domains.specs.Allowed.{EachAllowed}
 use Rattle.dom_model.specs.declared.goal.Goal.{Goal}
 use Rattle.dom_model.specs.declared.goal.Goal.TheVariants.{Satisfy, Minimize, Maximize}
 use Rattle.dom_model.specs.Problem.{Problem}
-use Rattle.dom_network.specs.Completion.{MeetsEach}
+use Rattle.any_kind.specs.Meets.{MeetsEach}
 use Rattle.dom_network.specs.Free.{free_of, free_values, tuple_count_of}
 
 -- every value is one that the declaration allows, and every constraint is satisfied

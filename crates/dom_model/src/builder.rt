@@ -87,7 +87,8 @@ impl ModelBuilder {
     #[tactic(auto, using(crate::proofs::DraftLaws::with_constraint))]
     pub fn constraint(&mut self, kind: AnyKind, defines: Option<VarId>) -> Result<(), NoMemory>
         requires few { length self.old.constraints < 2147483648 }
-        requires fit { IsFitPosted (length self.old.variables) (record { kind = solved kind defines; defines = defines }) }
+        requires fit { IsFitPosted (length self.old.variables)
+            (record { kind = solved kind defines; defines = defines }) }
         ensures ok { OnOk result (self.new ≡ record self.old {
           constraints = self.old.constraints ++ record { kind = solved kind defines; defines = defines } ∷ [];
         }) }
@@ -110,7 +111,9 @@ impl ModelBuilder {
     #[tactic(auto, using(crate::proofs::DraftLaws::with_output))]
     pub fn output(&mut self, mark: Output) -> Result<(), NoMemory>
         requires { IsFitOutput (length self.old.variables) mark }
-        ensures ok { OnOk result (self.new ≡ record self.old { outputs = self.old.outputs ++ mark ∷ [] }) }
+        ensures ok { OnOk result (self.new ≡ record self.old {
+          outputs = self.old.outputs ++ mark ∷ [];
+        }) }
         ensures err { OnErr result (self.new ≡ self.old) }
     {
         self.outputs.push(mark)?;

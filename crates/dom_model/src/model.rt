@@ -4,6 +4,7 @@ ghost use Rattle.std.specs.Cmp.Lexicographic.{slice_cmp};
 ghost use Rattle.std.specs.Ordering.{int_cmp};
 ghost use Rattle.dom_core.specs.Assignment.{value_at};
 ghost use Rattle.dom_core.specs.Domain.{IsDomain};
+ghost use Rattle.dom_definers.specs.Definers.{definer_at};
 ghost use Rattle.dom_definers.specs.Hulls.{hull_at};
 ghost use Rattle.dom_model.specs.Draft.{AreFitOutputs};
 ghost use Rattle.dom_model.specs.Least.{IsBetter, IsFeasible, objective_of};
@@ -11,7 +12,8 @@ ghost use Rattle.dom_model.specs.Sound.{FeasibleIsCompleted};
 ghost use Rattle.dom_network.specs.Completion.{AreInHulls, IsCompletion};
 ghost use Rattle.dom_network.specs.Free.{IsTuple, free_of};
 ghost use Rattle.dom_network.specs.NetworkLaws.{HasOneCompletion};
-ghost use Rattle.dom_network.specs.Place.{IsPlace};
+ghost use Rattle.dom_network.specs.Place.{HasDomain, IsPlace};
+ghost use Rattle.dom_network.specs.Tables.{AreDependentsIn, AreReadersIn};
 ghost use Rattle.kind_law.specs.Laws.{AllBelow};
 
 use crate::goal::Goal;
@@ -100,6 +102,47 @@ impl Model {
         domain
     }
 
+    /// The values of the free variable.
+    pub fn domain(&self, var: VarId) -> &Domain
+        requires below { var.0 < length self.now.variables }
+        requires free { definer_at self.now.network.definers var.0 ≡ None }
+        ensures domain { HasDomain self.now.network var.0 result.now }
+        ensures sound { IsDomain result.now }
+    {
+        match self.place(var) {
+            Some(place) => self.domain_at(place),
+            None => unreachable!(),
+        }
+    }
+
+    /// The place of the constraint that defines the variable, where there is one.
+    pub fn definer(&self, var: VarId) -> Option<usize>
+        requires { var.0 < length self.now.variables }
+        ensures { result ≡ definer_at self.now.network.definers var.0 }
+    {
+        let _network = self.network.vars();
+        self.network.definer(var)
+    }
+
+    /// The places of the constraints that read the variable, in order.
+    pub fn readers(&self, var: VarId) -> &[usize]
+        requires { var.0 < length self.now.variables }
+        ensures { AreReadersIn self.now.network.constraints var.0 result.now }
+    {
+        let _network = self.network.vars();
+        self.network.readers(var)
+    }
+
+    /// The numbers of the variables that depend on the free one, each behind those that its definition reads.
+    pub fn dependents(&self, var: VarId) -> &[usize]
+        requires below { var.0 < length self.now.variables }
+        requires free { definer_at self.now.network.definers var.0 ≡ None }
+        ensures { AreDependentsIn self.now.network var.0 result.now }
+    {
+        let _network = self.network.vars();
+        self.network.dependents(var)
+    }
+
     /// The least to the greatest value that the variable can have.
     pub fn hull(&self, var: VarId) -> Interval
         requires { var.0 < length self.now.variables }
@@ -134,7 +177,8 @@ impl Model {
     pub fn complete(&self, free: &[i64], out: &mut Assignment)
         requires values { IsTuple self.now.network.domains free.now }
         requires whole { length out.old ≡ length self.now.variables }
-        ensures completion { IsCompletion self.now.network.constraints self.now.network.definers free.now out.new }
+        ensures completion { IsCompletion self.now.network.constraints self.now.network.definers
+            free.now out.new }
         ensures hulls { AreInHulls self.now.network.hulls out.new }
     {
         let _network = self.network.vars();
@@ -208,7 +252,8 @@ impl Model {
 fn free_order(free: &[VarId], first: &Assignment, second: &Assignment) -> Ordering
     requires first { AllBelow (length first.now) free.now }
     requires second { AllBelow (length second.now) free.now }
-    ensures { result ≡ slice_cmp int_cmp (map (value_at first.now) free.now) (map (value_at second.now) free.now) }
+    ensures { result ≡ slice_cmp int_cmp
+        (map (value_at first.now) free.now) (map (value_at second.now) free.now) }
 {
     for var in free {
         let order = first.value(*var).cmp(&second.value(*var));

@@ -129,6 +129,13 @@ fn a_defined_variable_is_restricted_and_not_free(rt: HostRuntime) -> Result<(), 
     let hull = model.hull(Y);
     assert_eq!(rt; (hull.lo(), hull.hi()), (0, 9));
     assert_eq!(rt; (model.place(X), model.place(Y)), (Some(0), None));
+    assert_eq!(rt; model.definer(Y), Some(0));
+    assert_eq!(rt; model.readers(Y), [0, 1].as_slice());
+    let None = model.definer(X) else {
+        panic!(rt; "x is defined");
+    };
+    assert_eq!(rt; model.dependents(X), [1].as_slice());
+    assert_eq!(rt; model.domain(X).size(), 4);
     assert_eq!(rt; model.name(Y).as_bytes(), b"y".as_slice());
     assert_eq!(rt; (model.form(Y), model.outputs().len()), (Form::Int, 0));
     Ok(())

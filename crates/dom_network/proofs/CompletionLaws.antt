@@ -12,7 +12,8 @@ use Rattle.dom_core.specs.declared.var_id.VarId.{VarId}
 use Rattle.dom_core.proofs.RisesLaws.{int_eq_same}
 use Rattle.dom_definers.specs.Definers.{definer_at}
 use Rattle.dom_definers.specs.Hulls.{spans}
-use Rattle.dom_network.specs.Completion.{AreInHulls, HasGiven, IsCompletion, MeetsEach}
+use Rattle.any_kind.specs.Meets.{MeetsEach}
+use Rattle.dom_network.specs.Completion.{AreInHulls, HasGiven, IsCompletion}
 use Rattle.dom_network.specs.Filling.{IsReadInside, own_definition, with_given, written}
 use Rattle.dom_network.specs.Free.{IsTuple, free_of, free_values}
 use Rattle.dom_network.specs.Network.{Gives, IsNetwork, Network}

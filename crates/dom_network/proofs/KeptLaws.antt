@@ -1,5 +1,5 @@
 -- A network in the words of its calls: what is kept of it, and what is read.
-use Rattle.std.proofs.Common.{◌≡◌, ◌<◌, Option, Some, None, List, ℕ, length, get_or, slice_get, ℤ, refl, sym, ◌∙◌, ap, subst, arith}
+use Rattle.std.proofs.Common.{◌≡◌, ◌<◌, Option, Some, None, List, [], ℕ, length, get_or, slice_get, ℤ, refl, sym, ◌∙◌, ap, subst, arith}
 use Rattle.std.proofs.lemmas.List.{get_or_default}
 use Rattle.std.proofs.lemmas.Option.{get_or_from_slice_get, same_Some, slice_get_read}
 use Rattle.any_kind.specs.Any.{AnyInputsFit, any_given, any_inputs}
@@ -10,10 +10,14 @@ use Rattle.dom_definers.specs.Definers.{definer_at}
 use Rattle.dom_network.specs.Filling.{IsReadInside, own_definition}
 use Rattle.dom_network.specs.Free.{free_of}
 use Rattle.dom_network.specs.Network.{Gives, IsNetwork, Network}
-use Rattle.dom_network.specs.Place.{IsKept, IsPlace, places_of}
+use Rattle.dom_network.specs.Place.{IsPlace, places_of}
+use Rattle.dom_network.specs.Completion.{reading_of}
+use Rattle.dom_network.specs.Tables.{AreDependentsIn, AreReadersIn, IsKept, free_marks}
+use Rattle.dom_network.proofs.TableLaws.{dependents_read}
+use Rattle.incidence.specs.Dependents.{AreDependents, IsDependents}
 use Rattle.dom_network.proofs.FreeLaws.{domain_count}
 use Rattle.dom_network.proofs.HullLaws.{LieInHulls, by_definer, fit_at, given_small, inputs_below, inputs_fit}
-use Rattle.dom_network.proofs.OrderLaws.{defined_by}
+use Rattle.dom_network.proofs.OrderLaws.{defined_by, reading_count}
 use Rattle.dom_network.proofs.PlaceLaws.{place_count, place_read}
 use Rattle.kind_law.specs.Laws.{AllBelow, points}
 
@@ -46,7 +50,8 @@ definer_used m order a v i k net lt whole read definer there =
     let here : get_or m.constraints i k ≡ c = get_or_from_slice_get m.constraints i c k (subst (λ (n : ℕ). slice_get m.constraints n ≡ Some c) place g) in
     subst (λ (x : AnyKind). IsUse m a v x) (sym here ∙ sym there) (definition_used m order a v j c net whole read e g gives)))
 
-module _ (inner m : Network) (order : List ℕ) (free : List VarId) (places : List (Option ℕ)) (view : inner ≡ m) (kept : IsKept inner order free places) where
+module _ (inner m : Network) (order : List ℕ) (free : List VarId) (places : List (Option ℕ)) (readers dependents : List (List ℕ)) (view : inner ≡ m)
+    (kept : IsKept inner order free places readers dependents) where
   pub kept_network : IsNetwork m order
   kept_network = subst (λ (n : Network). IsNetwork n order) view kept.network
 
@@ -89,3 +94,23 @@ module _ (inner m : Network) (order : List ℕ) (free : List VarId) (places : Li
       let here : d ≡ get_or m.definers v d = subst (λ (ds : List (Option ℕ)). d ≡ get_or ds v d) (ap (λ (n : Network). n.definers) view) read in
       definer_used m order a v i k kept_network lt whole inside (sym (get_or_default m.definers v d None lt) ∙ sym here ∙ some)
       (subst (λ (ks : List AnyKind). k ≡ get_or ks i k) (ap (λ (n : Network). n.constraints) view) there)
+
+  kept_count : length inner.definers ≡ length m.definers
+  kept_count = ap (λ (n : Network). length n.definers) view
+
+  pub readers_below : (v : ℕ) → v < length m.definers → v < length readers
+  readers_below v lt = omega (arith, lt, kept.is_read.whole, kept_count)
+
+  pub readers_found : (v : ℕ) (row : List ℕ) → v < length m.definers → row ≡ get_or readers v [] → AreReadersIn m.constraints v row
+  readers_found v row lt read =
+      subst (AreReadersIn m.constraints v) (sym read)
+      (subst (λ (n : Network). AreReadersIn n.constraints v (get_or readers v [])) view (kept.is_read.each v (omega (arith, lt, kept_count))))
+
+  pub dependents_below : (v : ℕ) → v < length m.definers → v < length dependents
+  dependents_below v lt = omega (arith, lt, kept.is_followed.whole, reading_count inner.constraints inner.definers, kept_count)
+
+  pub dependents_found : (v : ℕ) (row : List ℕ) → v < length m.definers → definer_at m.definers v ≡ None → row ≡ get_or dependents v [] → AreDependentsIn m v row
+  dependents_found v row lt free read =
+      let all : AreDependents (reading_of m.constraints m.definers) order (free_marks m.definers) dependents =
+      subst (λ (n : Network). AreDependents (reading_of n.constraints n.definers) order (free_marks n.definers) dependents) view kept.is_followed in
+      (order, kept_network.is_order, subst (IsDependents (reading_of m.constraints m.definers) order v) (sym read) (dependents_read m.constraints m.definers order dependents v all lt free))

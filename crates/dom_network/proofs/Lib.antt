@@ -1,8 +1,9 @@
 pub mod FreeLaws
 mod KeptLaws
-mod PlaceLaws
+pub mod PlaceLaws
 mod HullLaws
 mod OrderLaws
 mod CompletionLaws
 mod AdmissionLaws
+mod TableLaws
 mod TestLaws

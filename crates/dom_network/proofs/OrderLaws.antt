@@ -19,9 +19,10 @@ row_at ks [] v lt = absurd (omega (arith, lt))
 row_at ks (d ∷ ds) zero lt = refl
 row_at ks (d ∷ ds) (suc v) lt = row_at ks ds v (omega (arith, lt))
 
-rows : (ks : List AnyKind) (ds : List (Option ℕ)) → length (reading_of ks ds) ≡ length ds
-rows ks [] = refl
-rows ks (d ∷ ds) = ap suc (rows ks ds)
+-- there is a row for each variable
+pub reading_count : (ks : List AnyKind) (ds : List (Option ℕ)) → length (reading_of ks ds) ≡ length ds
+reading_count ks [] = refl
+reading_count ks (d ∷ ds) = ap suc (reading_count ks ds)
 
 -- the definition is that of the constraint
 pub defined_by : (m : Network) (v i : ℕ) (k : AnyKind) → definer_at m.definers v ≡ Some i → slice_get m.constraints i ≡ Some k → own_definition m v ≡ Some k
@@ -42,7 +43,7 @@ module _ (m : Network) (order : List ℕ) (net : IsNetwork m order) where
   pub order_below : (i : ℕ) → i < length order → get_or order i 0 < length m.definers
   order_below i lt =
       let b : get_or order i 0 < length (reading_of m.constraints m.definers) = net.is_order.nodes (get_or order i 0) (i, lt, get_or_default order i (get_or order i 0) 0 lt) in
-      omega (arith, b, rows m.constraints m.definers)
+      omega (arith, b, reading_count m.constraints m.definers)
 
   -- no variable stands twice
   pub order_apart : (i j : ℕ) → i < length order → j < length order → get_or order i 0 ≡ get_or order j 0 → i ≡ j
@@ -64,7 +65,7 @@ module _ (m : Network) (order : List ℕ) (net : IsNetwork m order) where
       let below : b < length m.definers = read_below (get_or order i 0) b node c in
       let row : Contains (get_or (reading_of m.constraints m.definers) (get_or order i 0) []) b =
       subst (λ (xs : List ℕ). Contains xs b) (sym (row_at m.constraints m.definers (get_or order i 0) node)) c in
-      let there = net.is_order.behind i b lt (omega (arith, below, rows m.constraints m.definers), row) in
+      let there = net.is_order.behind i b lt (omega (arith, below, reading_count m.constraints m.definers), row) in
       let front = get_take order i there.0 b (slice_get_read (take i order) (length (take i order)) there.0 b refl there.1 (sym there.2)) in
       (there.0, front.0, front.1)
 
@@ -79,7 +80,7 @@ module _ (m : Network) (order : List ℕ) (net : IsNetwork m order) where
   -- what holds of the variables along the order holds of all
   pub each_variable : (P : ℕ → Type 0) (n : ℕ) → length order ≤ n → ((k : ℕ) → k < n → P (get_or order k 0)) → (v : ℕ) → v < length m.definers → P v
   each_variable P n e h v lt =
-      let there = net.is_order.whole v (omega (arith, lt, rows m.constraints m.definers)) in
+      let there = net.is_order.whole v (omega (arith, lt, reading_count m.constraints m.definers)) in
       subst P (get_or_default order there.0 0 v there.1 ∙ there.2) (h there.0 (omega (arith, there.1, e)))
 
   -- what holds of each variable where it holds of what its definition reads holds of all

@@ -1,10 +1,12 @@
 -- The places of the free variables.
-use Rattle.std.proofs.Common.{◌≡◌, ◌<◌, ◌≤◌, ◌+◌, Option, Some, None, List, [], ◌∷◌, ◌++◌, ℕ, zero, suc, length, drop, get_or, slice_get, refl, sym, ◌∙◌, ap, subst, arith}
+use Rattle.std.proofs.Common.{◌≡◌, ◌<◌, ◌≤◌, ◌+◌, Option, Some, None, List, [], ◌∷◌, ◌++◌, ℕ, zero, suc, length, drop, get_or, slice_get, ℤ, refl, sym, ◌∙◌, ap, subst, arith}
 use Rattle.std.proofs.lemmas.List.{append_assoc, append-nil, length-append, drop_all, drop_more}
+use Rattle.std.proofs.lemmas.Option.{slice_get_within}
 use Rattle.dom_core.specs.declared.var_id.VarId.{VarId}
 use Rattle.dom_definers.specs.Definers.{definer_at}
 use Rattle.dom_network.specs.Free.{free_from, free_of}
-use Rattle.dom_network.specs.Place.{IsPlace, free_here, place_behind, places_from, places_of}
+use Rattle.dom_network.specs.Network.{Network}
+use Rattle.dom_network.specs.Place.{HasDomain, IsPlace, free_here, place_behind, places_from, places_of}
 
 -- ---- one variable more
 
@@ -89,3 +91,15 @@ first_place ds v (Some p) h =
 -- the place that is kept is that of the variable
 pub place_read : (ds : List (Option ℕ)) (v : ℕ) → v < length ds → IsPlace ds v (get_or (places_of ds) v None)
 place_read ds v lt = first_place ds v (get_or (places_of ds) v None) (place_from 0 0 ds v lt)
+
+-- the place of a free variable is one of the list
+pub place_within : (ds : List (Option ℕ)) (v p : ℕ) (o : Option ℕ) → IsPlace ds v o → o ≡ Some p → p < length (free_of ds)
+place_within ds v p o h e = slice_get_within (free_of ds) p (record { 0 = v }) (subst (λ (q : Option ℕ). IsPlace ds v q) e h).1
+
+-- a free variable has a place
+pub place_missing : (ds : List (Option ℕ)) (v : ℕ) (o : Option ℕ) → IsPlace ds v o → o ≡ None → definer_at ds v ≡ None → ⊥
+place_missing ds v o h e free = subst (λ (q : Option ℕ). IsPlace ds v q) e h free
+
+-- the domain at the place of a variable is its own
+pub domain_at_place : (m : Network) (v p : ℕ) (o : Option ℕ) (d : List ℤ) → IsPlace m.definers v o → o ≡ Some p → slice_get m.domains p ≡ Some d → HasDomain m v d
+domain_at_place m v p o d h e g = (p, subst (λ (q : Option ℕ). IsPlace m.definers v q) e h, g)

@@ -2,38 +2,30 @@
 use Rattle.std.proofs.Common.{◌≡◌, ◌<◌, ◌+◌, get_or, inl, inr, true, Option, Some, None, List, [], ◌∷◌, ℕ, zero, suc, length, ℤ, refl, sym, ◌∙◌, ap, subst, arith}
 use Rattle.std.proofs.lemmas.Bool.{cases_lt}
 use Rattle.any_kind.specs.Any.{AnyInputsFit, any_defined, any_functional, any_inputs, any_measured, any_vars}
-use Rattle.any_kind.specs.AnyLaws.{any-measured, any-parts, any-pass}
+use Rattle.any_kind.specs.AnyLaws.{any-among, any-pass}
 use Rattle.any_kind.specs.declared.any.AnyKind.{AnyKind}
 use Rattle.dom_core.specs.Domain.{IsDomain}
 use Rattle.dom_core.specs.Assignment.{entry_at}
 use Rattle.dom_core.specs.Ends.{Ends, lies_in}
 use Rattle.dom_core.specs.declared.var_id.VarId.{VarId}
 use Rattle.digraph.specs.Order.{IsOrder}
+use Rattle.dom_definers.proofs.HullLaws.{known_one}
+use Rattle.dom_definers.proofs.WidthLaws.{measured_below}
 use Rattle.dom_definers.specs.Definers.{definer_at, numbers}
-use Rattle.dom_definers.specs.Hulls.{AreSmallHulls, IsSmallHull, hull_at, is_known, span_of, spans}
+use Rattle.dom_definers.specs.Hulls.{AreSmallHulls, hull_at, is_known, span_of, spans}
 use Rattle.dom_network.specs.Network.{Gives, IsFitOver, IsGiven, IsNetwork, ends_of_values}
-use Rattle.kind_law.specs.Laws.{AllBelow, AreAmong, AreSmall, Each, EndsIn, small_ends}
-use Rattle.kind_law.proofs.ArgumentLaws.{listed}
+use Rattle.kind_law.specs.Laws.{AllBelow, AreSmall, EndsIn, small_ends}
+use Rattle.kind_law.proofs.ArgumentLaws.{each_among}
 use Rattle.kind_law.proofs.EachLaws.{each_map}
-
-each_among : (P : VarId → Type 0) (few many : List VarId) → AreAmong few many → Each P many → Each P few
-each_among P few many a h = each_map (λ u. _) P few (λ u l. listed P u many l h) a
-
-pub measured_below : (n : ℕ) (k : AnyKind) → AllBelow n (any_vars k) → AllBelow n (any_measured k)
-measured_below n k h = each_among (λ u. u.0 < n) (any_measured k) (any_vars k) (any-measured k) h
-
-known_in : (h : Option Ends) → is_known h ≡ true → IsSmallHull h → EndsIn (span_of h) small_ends
-known_in None k s = absurd (cc)
-known_in (Some e) k s = s
 
 pub measured_small : (hs : List (Option Ends)) (k : AnyKind) → AllBelow (length hs) (any_vars k) → ((v : ℕ) → v < length hs → is_known (hull_at hs v) ≡ true) → AreSmallHulls hs
     → AreSmall (any_measured k) (spans hs)
 measured_small hs k below known small = record {
-  parts = each_map (λ u. u.0 < length hs) (λ u. EndsIn (spans hs u.0) small_ends) (any_measured k) (λ u l. known_in (hull_at hs u.0) (known u.0 l) (small u.0)) (measured_below (length hs) k below);
+  parts = each_map (λ u. u.0 < length hs) (λ u. EndsIn (spans hs u.0) small_ends) (any_measured k) (λ u l. known_one (hull_at hs u.0) (known u.0 l) (small u.0)) (measured_below (length hs) k below);
 }
 
 pub test_inputs : (hs : List (Option Ends)) (k : AnyKind) → any_functional k ≡ true → IsFitOver hs k → AllBelow (length hs) (any_inputs k)
-test_inputs hs k f fit = each_among (λ u. u.0 < length hs) (any_inputs k) (any_vars k) (any-parts k f).others fit.below
+test_inputs hs k f fit = each_among (λ u. u.0 < length hs) (any_inputs k) (any_vars k) (any-among k) fit.below
 
 pub test_fits : (hs : List (Option Ends)) (k : AnyKind) → any_functional k ≡ true → IsFitOver hs k → any_defined k (spans hs) ≡ true → AnyInputsFit k (spans hs)
 test_fits hs k f fit d = any-pass k f (spans hs) fit.fits d

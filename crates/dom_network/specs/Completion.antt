@@ -1,6 +1,6 @@
 -- The values that definitions give.
 use Rattle.std.specs.Prelude.{◌≡◌, ◌<◌, true, Option, Some, None, List, [], ◌∷◌, ℕ, length, slice_get, ℤ}
-use Rattle.any_kind.specs.Any.{any_given, any_inputs, any_met}
+use Rattle.any_kind.specs.Any.{any_given, any_inputs}
 use Rattle.any_kind.specs.declared.any.AnyKind.{AnyKind}
 use Rattle.dom_core.specs.Assignment.{entry_at}
 use Rattle.dom_core.specs.Ends.{Ends, lies_in}
@@ -23,11 +23,6 @@ pub record IsCompletion (ks : List AnyKind) (ds : List (Option ℕ)) (values a :
   pub whole : length a ≡ length ds
   pub free : free_values ds a ≡ values
   pub defined : (v : ℕ) → v < length ds → HasGiven (definition_at ks (definer_at ds v)) a v
-
--- the assignment satisfies each of the constraints
-abbrev pub MeetsEach : List AnyKind → List ℤ → Type 0
-MeetsEach [] a = Unit {0}
-MeetsEach (k ∷ ks) a = (any_met k a ≡ true) × MeetsEach ks a
 
 -- each value lies in the hull of its variable
 pub record AreInHulls (hs : List (Option Ends)) (a : List ℤ) : Type 0 where

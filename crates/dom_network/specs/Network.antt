@@ -20,6 +20,10 @@ pub record Network : Type 0 where
   pub hulls : List (Option Ends)
   pub domains : List (List ℤ)
 
+-- the network of these parts
+abbrev pub network_of : List AnyKind → List (Option ℕ) → List (Option Ends) → List (List ℤ) → Network
+network_of ks ds hs domains = record { constraints = ks; definers = ds; hulls = hs; domains = domains }
+
 -- the constraint reads so many variables, and stays far from a machine's ends over their hulls
 pub record IsFitOver (hs : List (Option Ends)) (k : AnyKind) : Type 0 where
   pub below : AllBelow (length hs) (any_vars k)

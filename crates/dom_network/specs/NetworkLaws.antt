@@ -1,6 +1,7 @@
 -- What holds of every network.
 use Rattle.std.specs.Prelude.{◌≡◌, List, ℕ, length, ℤ}
-use Rattle.dom_network.specs.Completion.{IsCompletion, AreInHulls, MeetsEach}
+use Rattle.any_kind.specs.Meets.{MeetsEach}
+use Rattle.dom_network.specs.Completion.{IsCompletion, AreInHulls}
 use Rattle.dom_network.specs.Free.{IsTuple, free_values}
 use Rattle.dom_network.specs.Network.{IsNetwork, Network}
 

@@ -1,14 +1,18 @@
 -- The place of a variable in the list of those that nothing defines.
-use Rattle.std.specs.Prelude.{◌≡◌, Option, Some, None, List, [], ◌∷◌, ℕ, suc, slice_get}
+use Rattle.std.specs.Prelude.{◌≡◌, Option, Some, None, List, [], ◌∷◌, ℕ, suc, slice_get, ℤ}
 use Rattle.dom_core.specs.declared.var_id.VarId.{VarId}
 use Rattle.dom_definers.specs.Definers.{definer_at}
 use Rattle.dom_network.specs.Free.{free_of}
-use Rattle.dom_network.specs.Network.{Network, IsNetwork}
+use Rattle.dom_network.specs.Network.{Network}
 
 -- the variable stands at this place of the list of free ones, and has none exactly where it is defined
 abbrev pub IsPlace : List (Option ℕ) → ℕ → Option ℕ → Type 0
 IsPlace ds v None = definer_at ds v ≡ None → ⊥
 IsPlace ds v (Some p) = (definer_at ds v ≡ None) × (slice_get (free_of ds) p ≡ Some (record { 0 = v }))
+
+-- this is the domain of the variable, which is free
+abbrev pub HasDomain : Network → ℕ → List ℤ → Type 0
+HasDomain m v d = (p : ℕ) × IsPlace m.definers v (Some p) × (slice_get m.domains p ≡ Some d)
 
 -- the place of a variable with this definer, where so many free ones stand before it
 abbrev pub place_behind : ℕ → Option ℕ → Option ℕ
@@ -29,9 +33,3 @@ places_from n (Some i ∷ ds) = None ∷ places_from n ds
 -- for each variable its place among the free ones
 abbrev pub places_of : List (Option ℕ) → List (Option ℕ)
 places_of ds = places_from 0 ds
-
--- what is kept beside a network: an order of its variables, the free ones, and their places
-pub record IsKept (m : Network) (order : List ℕ) (free : List VarId) (places : List (Option ℕ)) : Type 0 where
-  pub network : IsNetwork m order
-  pub is_free : free ≡ free_of m.definers
-  pub is_placed : places ≡ places_of m.definers

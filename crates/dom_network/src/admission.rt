@@ -1,6 +1,7 @@
 //! Which assignments satisfy every constraint.
 ghost use Rattle.std.specs.Prelude.{◌≡◌, ◌↔◌, IsTrue, length};
-ghost use Rattle.dom_network.specs.Completion.{AreInHulls, MeetsEach};
+ghost use Rattle.any_kind.specs.Meets.{MeetsEach};
+ghost use Rattle.dom_network.specs.Completion.{AreInHulls};
 ghost use Rattle.dom_network.specs.Free.{IsTuple, free_values};
 
 use crate::network::Network;
@@ -11,7 +12,8 @@ impl Network {
     /// Whether the free values are from their domains and each constraint is satisfied.
     pub fn admits(&self, a: &Assignment) -> bool
         requires { AreInHulls self.now.hulls a.now }
-        ensures { IsTrue result ↔ (IsTuple self.now.domains (free_values self.now.definers a.now) × MeetsEach self.now.constraints a.now) }
+        ensures { IsTrue result ↔ (IsTuple self.now.domains (free_values self.now.definers a.now)
+            × MeetsEach self.now.constraints a.now) }
     {
         if !self.is_in_domains(a) {
             return false;

@@ -6,6 +6,7 @@ mod completion;
 mod laws;
 mod network;
 mod places;
+mod tables;
 #[cfg(test)]
 mod tests;
 

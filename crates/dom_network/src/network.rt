@@ -1,13 +1,16 @@
 //! Constraint networks.
-ghost use Rattle.std.specs.Prelude.{◌≡◌, ◌<◌, ◌≤◌, length, slice_get, Some, IfOk};
+ghost use Rattle.std.specs.Prelude.{◌≡◌, ◌<◌, ◌≤◌, length, slice_get, Some, None, IfOk};
 ghost use Rattle.dom_definers.specs.Definers.{definer_at};
 ghost use Rattle.dom_definers.specs.Hulls.{IsSmallHull, hull_at};
 ghost use Rattle.dom_network.specs.Free.{free_of};
-ghost use Rattle.dom_network.specs.Network.{IsNetwork};
+ghost use Rattle.dom_network.specs.Network.{IsNetwork, network_of};
 ghost use Rattle.dom_network.specs.Place.{IsPlace};
+ghost use Rattle.dom_network.specs.Tables.{AreDependentsIn, AreReadersIn};
 
 use crate::places::free_and_places;
+use crate::tables::{dependents_of, readers_of};
 use any_kind::AnyKind;
+use digraph::Digraph;
 use dom_core::{Domain, Interval, VarId};
 use dom_definers::Hulls;
 use std::alloc::{AllocError, Global};
@@ -23,17 +26,21 @@ pub struct Network {
     pub(crate) free: Vec<VarId>,
     places: Vec<Option<usize>>,
     pub(crate) domains: Vec<Domain>,
+    readers: Digraph,
+    dependents: Digraph,
 }
 
 impl Model for Network {
-    ghost use Rattle.dom_network.specs.Network.{Network};
-    ghost use Rattle.dom_network.specs.Place.{IsKept};
+    ghost use Rattle.dom_network.specs.Network.{Network, network_of};
+    ghost use Rattle.dom_network.specs.Tables.{IsKept};
 
     ghost Value = { Network };
 
-    ghost view = { λ n. record { constraints = n.constraints.items; definers = n.definers.items; hulls = n.hulls; domains = n.domains.items } };
+    ghost view = { λ n. network_of n.constraints.items n.definers.items n.hulls n.domains.items };
 
-    ghost invariant = { λ n. IsKept (record { constraints = n.constraints.items; definers = n.definers.items; hulls = n.hulls; domains = n.domains.items }) n.order.items n.free.items n.places.items };
+    ghost invariant = { λ n. IsKept
+        (network_of n.constraints.items n.definers.items n.hulls n.domains.items)
+        n.order.items n.free.items n.places.items n.readers n.dependents };
 }
 
 impl Network {
@@ -46,10 +53,17 @@ impl Network {
         hulls: Hulls,
         domains: Vec<Domain>,
     ) -> Result<Network, AllocError>
-        requires { IsNetwork (record { constraints = constraints.items; definers = definers.items; hulls = hulls; domains = domains.items }) order.items }
-        ensures { IfOk result (λ n. n ≡ record { constraints = constraints.items; definers = definers.items; hulls = hulls; domains = domains.items }) }
+        requires { IsNetwork (network_of constraints.items definers.items hulls domains.items) order.items }
+        ensures { IfOk result (λ n. n ≡ network_of constraints.items definers.items hulls domains.items) }
     {
         let (free, places) = free_and_places(alloc, definers.as_slice())?;
+        let readers = readers_of(alloc, constraints.as_slice(), definers.len())?;
+        let dependents = dependents_of(
+            alloc,
+            constraints.as_slice(),
+            definers.as_slice(),
+            order.as_slice(),
+        )?;
         Ok(Network {
             constraints,
             definers,
@@ -58,6 +72,8 @@ impl Network {
             free,
             places,
             domains,
+            readers,
+            dependents,
         })
     }
 
@@ -117,5 +133,22 @@ impl Network {
         ensures { slice_get self.now.domains place ≡ Some result.now }
     {
         &self.domains[place]
+    }
+
+    /// The places of the constraints that read the variable, in order.
+    pub fn readers(&self, var: VarId) -> &[usize]
+        requires { var.0 < length self.now.definers }
+        ensures { AreReadersIn self.now.constraints var.0 result.now }
+    {
+        self.readers.successors(var.0 as usize)
+    }
+
+    /// The numbers of the variables that depend on the free one, each behind those that its definition reads.
+    pub fn dependents(&self, var: VarId) -> &[usize]
+        requires below { var.0 < length self.now.definers }
+        requires free { definer_at self.now.definers var.0 ≡ None }
+        ensures { AreDependentsIn self.now var.0 result.now }
+    {
+        self.dependents.successors(var.0 as usize)
     }
 }

@@ -6,7 +6,7 @@ ghost use Rattle.dom_definers.specs.Hulls.{AreSmallDeclared, IsSmallHull, hull_a
 ghost use Rattle.dom_network.specs.Completion.{AreInHulls};
 ghost use Rattle.dom_network.specs.Free.{IsTuple};
 ghost use Rattle.digraph.specs.Order.{IsOrder};
-ghost use Rattle.dom_network.specs.Network.{Gives, IsFitOver, IsNetwork, ends_of_values};
+ghost use Rattle.dom_network.specs.Network.{Gives, IsFitOver, IsNetwork, ends_of_values, network_of};
 ghost use Rattle.kind_law.specs.Laws.{AllBelow};
 
 use super::*;
@@ -97,7 +97,8 @@ fn has_range(kind: &AnyKind, var: VarId, hulls: &Hulls) -> bool
     requires functional { any_functional kind.now ≡ true }
     requires fit { IsFitOver hulls.now kind.now }
     requires below { var.0 < length hulls.now }
-    ensures { OnTrue result (AnyInputsFit kind.now (spans hulls.now) × (hull_at hulls.now var.0 ≡ Some (any_ranged kind.now (spans hulls.now)))) }
+    ensures { OnTrue result (AnyInputsFit kind.now (spans hulls.now)
+        × (hull_at hulls.now var.0 ≡ Some (any_ranged kind.now (spans hulls.now)))) }
 {
     if !kind.is_defined_over(hulls) {
         return false;
@@ -162,7 +163,8 @@ fn reads_first(kind: &AnyKind) -> bool
 
 // The parts are those of a network in any order of its two variables in which the second comes behind the first.
 fn are_parts(definition: &AnyKind, bound: &AnyKind, hulls: &Hulls, domain: &Domain) -> bool
-    ensures { OnTrue result ((order : List ℕ) → IsOrder ([] ∷ (0 ∷ []) ∷ []) order → IsNetwork (record { constraints = definition.now ∷ bound.now ∷ []; definers = None ∷ Some 0 ∷ []; hulls = hulls.now; domains = domain.now ∷ [] }) order) }
+    ensures { OnTrue result ((order : List ℕ) → IsOrder ([] ∷ (0 ∷ []) ∷ []) order → IsNetwork
+        (network_of (definition.now ∷ bound.now ∷ []) (None ∷ Some 0 ∷ []) hulls.now (domain.now ∷ [])) order) }
 {
     if hulls.len() != 2 {
         return false;
@@ -199,7 +201,8 @@ fn assemble(
     domain: Domain,
     order: Vec<usize>,
 ) -> Result<Network, NoMemory>
-    requires { IsNetwork (record { constraints = definition ∷ bound ∷ []; definers = None ∷ Some 0 ∷ []; hulls = hulls; domains = domain ∷ [] }) order.items }
+    requires { IsNetwork
+        (network_of (definition ∷ bound ∷ []) (None ∷ Some 0 ∷ []) hulls (domain ∷ [])) order.items }
     ensures { IfOk result (λ n. n.definers ≡ None ∷ Some 0 ∷ []) }
 {
     let constraints = vec![in alloc; definition, bound]?;
@@ -298,6 +301,9 @@ fn free_values_are_completed_and_admitted(rt: HostRuntime) -> Result<(), Fail> {
     assert_eq!(rt; network.place(VarId(0)), Some(0));
     assert_eq!(rt; network.place(VarId(1)), None);
     assert_eq!(rt; network.domain(0).size(), 2);
+    assert_eq!(rt; network.readers(VarId(0)), [0].as_slice());
+    assert_eq!(rt; network.readers(VarId(1)), [0, 1].as_slice());
+    assert_eq!(rt; network.dependents(VarId(0)), [1].as_slice());
     assert!(rt; network.vars() == 2);
     let hull = network.hull(VarId(1));
     assert_eq!(rt; (hull.lo(), hull.hi()), (-1, 3));

@@ -2,7 +2,8 @@
 use Rattle.std.proofs.Common.{rules, length}
 use Rattle.any_kind.specs.Any.{any_measured}
 use Rattle.kind_law.proofs.EachLaws.{each_all}
-use Rattle.dom_network.proofs.TestLaws.{measured_below, measured_small}
+use Rattle.dom_definers.proofs.WidthLaws.{measured_below}
+use Rattle.dom_network.proofs.TestLaws.{measured_small}
 use Rattle.dom_network.proofs.tests.is_fit_over.Goals as goal
 
 pub is_too_wide-requires-clause-below : goal.is_too_wide-requires-clause-below

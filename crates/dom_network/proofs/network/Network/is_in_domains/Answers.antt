@@ -9,20 +9,20 @@ use Rattle.dom_network.proofs.network.Network.is_in_domains.Goals as goal
 
 pub index-requires : goal.index-requires
 index-requires c =
-    let free = kept_free _ c.args.self.now _ _ _ c.self.view_is c.self.invariant c.deref-var-items.result.now c.deref-var-items.ensures.value in
-    omega (arith, domain_below _ c.args.self.now _ _ _ c.self.view_is c.self.invariant c.loop-place.place (subst (λ (us : List VarId). c.loop-place.place < length us) free c.loop-place-test.true))
+    let free = kept_free _ c.args.self.now _ _ _ _ _ c.self.view_is c.self.invariant c.deref-var-items.result.now c.deref-var-items.ensures.value in
+    omega (arith, domain_below _ c.args.self.now _ _ _ _ _ c.self.view_is c.self.invariant c.loop-place.place (subst (λ (us : List VarId). c.loop-place.place < length us) free c.loop-place-test.true))
 
 pub value-requires : goal.value-requires
 value-requires c =
-    let free = kept_free _ c.args.self.now _ _ _ c.self.view_is c.self.invariant c.deref-var-items.result.now c.deref-var-items.ensures.value in
-    let net = kept_network _ c.args.self.now _ _ _ c.self.view_is c.self.invariant in
+    let free = kept_free _ c.args.self.now _ _ _ _ _ c.self.view_is c.self.invariant c.deref-var-items.result.now c.deref-var-items.ensures.value in
+    let net = kept_network _ c.args.self.now _ _ _ _ _ c.self.view_is c.self.invariant in
     free_var_below c.args.self.now c.self.inside.order.items c.deref-var-items.result.now c.loop-place.place net free c.args.a.now (record { 0 = 0 }) c.requires.whole c.loop-place-test.true
 
 pub loop-place-preserved : goal.loop-place-preserved
 loop-place-preserved c =
-    let free = kept_free _ c.args.self.now _ _ _ c.self.view_is c.self.invariant c.deref-var-items.result.now c.deref-var-items.ensures.value in
-    let net = kept_network _ c.args.self.now _ _ _ c.self.view_is c.self.invariant in
-    let read = domain_read _ c.args.self.now _ _ _ c.self.view_is c.self.invariant c.loop-place.place c.index.result.now c.index.ensures in
+    let free = kept_free _ c.args.self.now _ _ _ _ _ c.self.view_is c.self.invariant c.deref-var-items.result.now c.deref-var-items.ensures.value in
+    let net = kept_network _ c.args.self.now _ _ _ _ _ c.self.view_is c.self.invariant in
+    let read = domain_read _ c.args.self.now _ _ _ _ _ c.self.view_is c.self.invariant c.loop-place.place c.index.result.now c.index.ensures in
     let fits : FitsSigned w64 c.value.result = search rules in
     let value = to_z-of_z w64 c.value.result fits ∙ c.value.ensures in
     let among = ap (λ (x : ℤ). is_among x c.index.result.now) (sym value) ∙ sym c.contains.ensures ∙ c.if-not-contains.false in
@@ -32,7 +32,7 @@ loop-place-preserved c =
 
 pub returns : goal.returns
 returns c =
-    let free = kept_free _ c.args.self.now _ _ _ c.self.view_is c.self.invariant c.deref-var-items.result.now c.deref-var-items.ensures.value in
-    let net = kept_network _ c.args.self.now _ _ _ c.self.view_is c.self.invariant in
+    let free = kept_free _ c.args.self.now _ _ _ _ _ c.self.view_is c.self.invariant c.deref-var-items.result.now c.deref-var-items.ensures.value in
+    let net = kept_network _ c.args.self.now _ _ _ _ _ c.self.view_is c.self.invariant in
     let done = tuple_done c.args.self.now c.self.inside.order.items c.deref-var-items.result.now c.loop-place.place net free c.args.a.now c.loop-place-test.false in
     ((λ t. c.loop-place.invariant.left.1 done), (λ t. refl))

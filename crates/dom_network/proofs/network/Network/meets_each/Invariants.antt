@@ -1,6 +1,6 @@
 -- Those that are left decide.
 use Rattle.std.proofs.Common.{◌↔◌, drop}
-use Rattle.dom_network.specs.Completion.{MeetsEach}
+use Rattle.any_kind.specs.Meets.{MeetsEach}
 use Rattle.dom_network.proofs.network.Network.meets_each.Given as goal
 
 abbrev pub invariant-loop-kind : goal.invariant-loop-kind

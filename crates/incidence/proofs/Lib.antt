@@ -1,0 +1,4 @@
+mod ContainsLaws
+mod MeetingLaws
+mod SelectionLaws
+mod DependentsLaws

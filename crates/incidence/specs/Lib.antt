@@ -1,0 +1,4 @@
+pub mod Selection
+pub mod Holders
+pub mod Dependents
+pub mod Meeting
