@@ -16,7 +16,7 @@ use Rattle.fzn_lower.specs.declared.error.ModelError.TheVariants as lowering
 use Rattle.fzn_lower.specs.Lowered as lowered
 use Rattle.dom_top.specs.declared.fault.ModelFault.{ModelFault}
 use Rattle.dom_top.specs.declared.fault.ModelFault.TheVariants.{Lex, Syntax, Lower, NotBuilt}
-use Rattle.dom_top.specs.Texts.{HasItems, Stands, IsBuilt, HasLexFault, HasSyntaxFault, HasItemFault, IsTooWide, IsFault, HasOneOutcome}
+use Rattle.dom_top.specs.Texts.{HasItems, Stands, IsBuilt, HasLexFault, HasSyntaxFault, HasItemFault, IsTooWide, IsUnbuilt, IsFault, HasOneOutcome}
 use Rattle.dom_top.proofs.OneAnswer.{one_value, one_error, not_both}
 
 module _ (lexes : cutting.HasOneAnswer) (parses : parsed.HasOneAnswer) (lowers : lowered.HasOneAnswer) (text : List ℕ) where
@@ -103,5 +103,21 @@ module _ (lexes : cutting.HasOneAnswer) (parses : parsed.HasOneAnswer) (lowers :
   built : (p : Problem) (f : ModelFault) → IsBuilt text p → IsFault text f → ⊥
   built p f b k = never_wide p b (subst (IsFault text) (standing p f b.stands k) k)
 
+  not_built_is_no_memory : lowering.NotBuilt ≡ lowering.Memory → ⊥
+  not_built_is_no_memory e = absurd cc
+
+  told_unbuilt : IsFault text (Lower lowering.NotBuilt) → IsUnbuilt text
+  told_unbuilt h = record { items = h.items; has = h.has; faultless = h.lowered.0; unbuilt = h.lowered.1 }
+
+  unbuilt_told : IsUnbuilt text → IsFault text (Lower lowering.NotBuilt)
+  unbuilt_told h = record { not_memory = not_built_is_no_memory; items = h.items; has = h.has; lowered = (h.faultless, h.unbuilt) }
+
   pub one_outcome : HasOneOutcome text
-  one_outcome = record { items = one_items; model = one_model; fault = one_fault; standing = standing; built = built }
+  one_outcome = record {
+    items = one_items;
+    model = one_model;
+    fault = one_fault;
+    standing = standing;
+    built = built;
+    unbuilt = (told_unbuilt, unbuilt_told);
+  }

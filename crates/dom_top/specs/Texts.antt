@@ -1,5 +1,5 @@
 -- The items of a text, the model that it stands for, and its first fault.
-use Rattle.std.specs.Prelude.{◌≡◌, ◌≢◌, ℕ, ◌<◌, ◌≤◌, List, length, Ok, Err}
+use Rattle.std.specs.Prelude.{◌≡◌, ◌≢◌, ◌↔◌, ℕ, ◌<◌, ◌≤◌, List, length, None, Ok, Err}
 use Rattle.dom_model.specs.Least.{width_of}
 use Rattle.dom_model.specs.Problem.{Problem}
 use Rattle.fzn_lex.specs.declared.tokens.Token.{Token}
@@ -14,6 +14,8 @@ use Rattle.fzn_syntax.specs.Parsed.{IsParsed}
 use Rattle.fzn_lower.specs.declared.error.ModelError.{ModelError}
 use Rattle.fzn_lower.specs.declared.error.ModelError.TheVariants as lowering
 use Rattle.fzn_lower.specs.Lowered.{IsLowered}
+use Rattle.fzn_lower.specs.Steps.{FindsFault}
+use Rattle.fzn_totality.specs.Totality.{HasUnbuilt}
 use Rattle.dom_top.specs.declared.fault.ModelFault.{ModelFault}
 use Rattle.dom_top.specs.declared.fault.ModelFault.TheVariants.{Lex, Syntax, Lower, NotBuilt}
 
@@ -70,13 +72,22 @@ IsFault text (Syntax error) = HasSyntaxFault text error
 IsFault text (Lower error) = HasItemFault text error
 IsFault text NotBuilt = IsTooWide text
 
--- a text has one outcome: one list of items, one model and one first fault at most, and no fault where it stands for a model, but that this is too wide
+-- the text has items without a fault, one of whose constraints isn't built
+pub record IsUnbuilt (text : List ℕ) : Type 0 where
+  pub items : Items
+  pub has : HasItems text items
+  pub faultless : FindsFault items None
+  pub unbuilt : HasUnbuilt items.constraints
+
+-- a text has one outcome: one list of items, one model and one first fault at most, and no fault where it stands for a model, but that this is too wide;
+-- and what isn't built is a constraint of items without a fault
 pub record HasOneOutcome (text : List ℕ) : Type 0 where
   pub items : (one other : Items) → HasItems text one → HasItems text other → one ≡ other
   pub model : (one other : Problem) → Stands text one → Stands text other → one ≡ other
   pub fault : (one other : ModelFault) → IsFault text one → IsFault text other → one ≡ other
   pub standing : (p : Problem) (fault : ModelFault) → Stands text p → IsFault text fault → fault ≡ NotBuilt
   pub built : (p : Problem) (fault : ModelFault) → IsBuilt text p → IsFault text fault → ⊥
+  pub unbuilt : IsFault text (Lower lowering.NotBuilt) ↔ IsUnbuilt text
 
 -- every text has one outcome
 abbrev pub EveryTextHasOneOutcome : Type 0

@@ -11,8 +11,8 @@ use Rattle.fzn_signatures.specs.declared.shape.Comparison.{Comparison}
 use Rattle.fzn_signatures.specs.declared.shape.Comparison.TheVariants as comparisons
 use Rattle.fzn_signatures.specs.declared.shape.Shape.{Shape}
 use Rattle.fzn_signatures.specs.declared.shape.Shape.TheVariants as shapes
-use Rattle.kind_bool.specs.Connective.{conjunction_of, disjunction_of, clause_truth_of}
-use Rattle.kind_bool.specs.Operand.{operands_of}
+use Rattle.kind_truths.specs.Connective.{conjunction_of, disjunction_of, clause_truth_of}
+use Rattle.kind_truths.specs.Operand.{operands_of}
 use Rattle.kind_sum.specs.Sum.{terms_of}
 use Rattle.kind_sum.specs.SumRelation.{SumRelation}
 

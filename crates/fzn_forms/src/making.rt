@@ -11,7 +11,8 @@ use any_kind::AnyKind;
 use dom_core::Relation;
 use fzn_signatures::{Comparison, Shape};
 use kind_bool::{And, BoolClause, BoolClauseReified, Or, Xor};
-use kind_linear::{Linear, LinearReified};
+use kind_linear::Linear;
+use kind_reified::LinearReified;
 use std::alloc::Global;
 
 /// The kind of this shape over these arguments.

@@ -16,6 +16,7 @@ use Rattle.fzn_lower.specs.declared.error.ModelError.{ModelError}
 use Rattle.fzn_lower.specs.declared.error.ModelError.TheVariants.{TooMany, NameTwice, UnknownName, UnknownConstraint, WrongArguments, FloatOrSet, CyclicDefinition, EmptyDomain, Unbounded, DomainTooLarge, TooWide, NotBuilt, Memory}
 use Rattle.fzn_model.specs.Drafts.{Drafts}
 use Rattle.fzn_syntax.specs.declared.items.Items.{Items}
+use Rattle.fzn_totality.specs.Totality.{AreRight, IsUndrafted, UndraftedLaw}
 
 -- what the first step finds is found
 pub found_first : (F G : Step) (e : ModelError) → Finds F (Err e) → Finds (F ⟫ G) (Err e)
@@ -97,6 +98,10 @@ lowers_put F t d (Err build.Memory) f put h = tt
 
 pub lowers_ended : (F : Step) (t : Items) (d : Draft) (r : Result Problem ModelError) → F None → Drafts t d → Ends d r → Lowers F t r
 lowers_ended F t d r f put ends = subst (Lowers F t) (sym ends.2) (lowers_put F t d ends.0 f put ends.1)
+
+-- where it finds nothing and right items are in no way put together, one of their constraints isn't built
+pub lowers_unbuilt : (F : Step) (t : Items) → UndraftedLaw → F None → AreRight t → IsUndrafted t → Lowers F t (Err NotBuilt)
+lowers_unbuilt F t law f right undrafted = (f, law t right undrafted)
 
 -- two steps that find one thing at most, one behind the other, find one
 pub one_behind : (F G : Step) → FindsOne F → FindsOne G → FindsOne (F ⟫ G)

@@ -30,6 +30,7 @@ use Rattle.fzn_syntax.specs.declared.constraint.Constraint.{Constraint}
 use Rattle.fzn_syntax.specs.declared.declaration.Declaration.{Declaration}
 use Rattle.fzn_syntax.specs.declared.items.Items.{Items}
 use Rattle.fzn_signatures.specs.Table.{IsEntryOf, IsUnlisted}
+use Rattle.fzn_totality.specs.Totality.{HasUnbuilt, UnbuiltLaw}
 
 -- ---- a step by what it finds
 
@@ -261,11 +262,11 @@ module _ (scopes : ScopesOne) (declarations : declared.HaveOneFirst) (posts : po
   abbrev Ended : Items → Result Problem ModelError → Type 0
   Ended t r = (d : Draft) × (q : Result Problem BuildError) × Drafts t d × Finishes d q × (q ≡ Err build.Memory → ⊥) × (r ≡ answer_told q)
 
-  -- an answer but for want of memory: that over what the items are put together as, that they can't be, or a fault
+  -- an answer but for want of memory: that over what the items are put together as, that a constraint isn't built, or a fault
   abbrev Sorts : Items → Result Problem ModelError → Type 0
   Sorts t r =
       (FindsFault t None × Ended t r)
-      ⊎ (((r ≡ Err NotBuilt) × FindsFault t None × ((d : Draft) → Drafts t d → ⊥)) ⊎ ((e : ModelError) × (r ≡ Err e) × FindsFault t (Some e)))
+      ⊎ (((r ≡ Err NotBuilt) × FindsFault t None × HasUnbuilt t.constraints) ⊎ ((e : ModelError) × (r ≡ Err e) × FindsFault t (Some e)))
 
   model_is_no_memory : (p : Problem) → ◌≡◌ {A = Result Problem BuildError} (Ok p) (Err build.Memory) → ⊥
   model_is_no_memory p e = absurd cc
@@ -302,19 +303,19 @@ module _ (scopes : ScopesOne) (declarations : declared.HaveOneFirst) (posts : po
       let again : Finishes b.0 a.1 = subst (λ (d : Draft). Finishes d a.1) same a.3 in
       a.5 ∙ ap answer_told (outcomes b.0 a.1 b.1 again b.3 a.4 b.4) ∙ sym b.5
 
-  pub one_answer : DraftsOne → HasOneOutcome → HasOneAnswer
-  one_answer drafts outcomes t one other h k m n =
+  pub one_answer : DraftsOne → UnbuiltLaw → HasOneOutcome → HasOneAnswer
+  one_answer drafts unbuilt outcomes t one other h k m n =
       elim (sorted t one h m) [
         | inl a ↦ elim (sorted t other k n) [
           | inl b ↦ one_ended drafts outcomes t one other a.0 a.1 b.1
           | inr g ↦ elim g [
-            | inl b ↦ absurd (b.2 a.1.0 a.1.2)
+            | inl b ↦ absurd (unbuilt t b.2 a.1.0 a.1.2)
             | inr b ↦ absurd (fault_none t b.0 a.0 b.2)
           ]
         ]
         | inr f ↦ elim f [
           | inl a ↦ elim (sorted t other k n) [
-            | inl b ↦ absurd (a.2 b.1.0 b.1.2)
+            | inl b ↦ absurd (unbuilt t a.2 b.1.0 b.1.2)
             | inr g ↦ elim g [
               | inl b ↦ a.0 ∙ sym b.0
               | inr b ↦ absurd (fault_none t b.0 a.1 b.2)

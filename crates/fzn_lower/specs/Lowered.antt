@@ -11,6 +11,7 @@ use Rattle.fzn_lower.specs.declared.error.ModelError.{ModelError}
 use Rattle.fzn_lower.specs.declared.error.ModelError.TheVariants.{TooMany, NameTwice, UnknownName, UnknownConstraint, WrongArguments, FloatOrSet, CyclicDefinition, EmptyDomain, Unbounded, DomainTooLarge, TooWide, NotBuilt, Memory}
 use Rattle.fzn_model.specs.Drafts.{Drafts}
 use Rattle.fzn_syntax.specs.declared.items.Items.{Items}
+use Rattle.fzn_totality.specs.Totality.{HasUnbuilt}
 
 -- the fault of items, by that of what they are put together as
 abbrev pub told : BuildError → ModelError
@@ -39,8 +40,8 @@ pub record HasBuildFault (t : Items) (e : BuildError) : Type 0 where
   pub put : Drafts t draft
   pub fault : IsBuildFault draft e
 
--- the step finds nothing and this is the model, or the first fault of what the items are put together as, or they can't be put together,
--- which is not built; or the step finds this fault
+-- the step finds nothing and this is the model, or the first fault of what the items are put together as, or one of the constraints isn't
+-- built; or the step finds this fault
 abbrev pub Lowers : Step → Items → Result Problem ModelError → Type 0
 Lowers F t (Ok p) = F None × HasModel t p
 Lowers F t (Err (TooMany what count)) = F (Some (TooMany what count)) ⊎ (F None × HasBuildFault t (build.TooMany what count))
@@ -54,11 +55,11 @@ Lowers F t (Err (EmptyDomain x)) = F None × HasBuildFault t (build.EmptyDomain 
 Lowers F t (Err (Unbounded x)) = F None × HasBuildFault t (build.Unbounded x)
 Lowers F t (Err (DomainTooLarge x count)) = F None × HasBuildFault t (build.DomainTooLarge x count)
 Lowers F t (Err (TooWide c)) = F None × HasBuildFault t (build.TooWide c)
-Lowers F t (Err NotBuilt) = F None × ((d : Draft) → Drafts t d → ⊥)
+Lowers F t (Err NotBuilt) = F None × HasUnbuilt t.constraints
 Lowers F t (Err Memory) = Unit {0}
 
--- nothing is wrong and this is the model of the items, or the fault of what they are put together as, or they can't be put together, which
--- is not built; or this is the first fault
+-- nothing is wrong and this is the model of the items, or the fault of what they are put together as, or one of the constraints isn't
+-- built; or this is the first fault
 abbrev pub IsLowered : Items → Result Problem ModelError → Type 0
 IsLowered t r = Lowers (FindsFault t) t r
 

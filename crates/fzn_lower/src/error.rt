@@ -35,7 +35,7 @@ pub enum ModelError {
     /// The number, from 1, of the first constraint whose sum or product can be too large, or that gives its variable too large a value.
     #[error("constraint {constraint} too wide")]
     TooWide { constraint: u32 },
-    /// Nothing is wrong, and what the items say is not built yet.
+    /// Nothing is wrong up to where items are put together, and one of the constraints is not built yet.
     #[error("not built")]
     NotBuilt,
     #[error("out of memory")]

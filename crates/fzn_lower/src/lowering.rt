@@ -2,7 +2,7 @@
 ghost use Rattle.std.specs.Prelude.{◌≡◌, None};
 ghost use Rattle.fzn_lower.specs.Lowered.{Ends, HasOneAnswer, IsLowered, Lowers, told};
 ghost use Rattle.fzn_syntax.specs.Texts.{AreOfText};
-ghost use Rattle.fzn_lower.specs.Steps.{FindsSize, FindsName, FindsDeclaration, FindsNameOn, FindsUnknownOn, FindsDeclarationOn, FindsConstraintOn};
+ghost use Rattle.fzn_lower.specs.Steps.{FindsSize, FindsName, FindsUnknown, FindsDeclaration, FindsNameOn, FindsUnknownOn, FindsDeclarationOn, FindsConstraintOn};
 
 use crate::error::ModelError;
 use crate::steps::{check_declarations, check_names, check_sizes, check_valued};
@@ -11,6 +11,7 @@ use fzn_check::{constraints_have_one_first_fault, declarations_have_one_first_fa
 use fzn_model::{ResolveError, draft_of, one_draft};
 use fzn_symbols::{NameError, Scope, items_have_one_scope, scope_of};
 use fzn_syntax::Items;
+use fzn_totality::unbuilt_is_undrafted;
 use fzn_values::Constants;
 use std::alloc::Global;
 
@@ -23,6 +24,7 @@ pub fn items_have_one_answer()
     declarations_have_one_first_fault();
     constraints_have_one_first_fault();
     one_draft();
+    unbuilt_is_undrafted();
     drafts_have_one_outcome();
 }
 
@@ -64,6 +66,7 @@ fn lower_named(alloc: Global, scope: &Scope<'_>, items: &Items) -> Result<Model,
     requires text { AreOfText items.now }
     requires sized { FindsSize items.now None }
     requires named { FindsName items.now None }
+    requires known { FindsUnknown items.now None }
     ensures { Lowers (FindsDeclarationOn items.now) items.now result }
 {
     check_declarations(alloc, scope, items)?;
@@ -75,6 +78,7 @@ fn lower_typed(alloc: Global, scope: &Scope<'_>, items: &Items) -> Result<Model,
     requires text { AreOfText items.now }
     requires sized { FindsSize items.now None }
     requires named { FindsName items.now None }
+    requires known { FindsUnknown items.now None }
     requires typed { FindsDeclaration items.now None }
     ensures { Lowers (FindsConstraintOn items.now) items.now result }
 {
@@ -88,9 +92,13 @@ fn lower_fine(alloc: Global, values: &Constants<'_>, items: &Items) -> Result<Mo
     requires same { values.now ≡ items.now.declarations }
     requires text { AreOfText items.now }
     requires sized { FindsSize items.now None }
+    requires named { FindsName items.now None }
+    requires known { FindsUnknown items.now None }
+    requires typed { FindsDeclaration items.now None }
     requires fine { FindsConstraintOn items.now None }
     ensures { Lowers (FindsConstraintOn items.now) items.now result }
 {
+    unbuilt_is_undrafted();
     match draft_of(alloc, values, items) {
         Ok(draft) => finish(draft),
         Err(ResolveError::NotBuilt) => Err(ModelError::NotBuilt),

@@ -26,13 +26,13 @@ use Rattle.fzn_syntax.specs.declared.declaration.Declaration.TheVariants.{Parame
 use Rattle.fzn_syntax.specs.declared.expression.Basic.{Basic}
 use Rattle.fzn_syntax.specs.declared.expression.Expression.{Expression}
 use Rattle.fzn_syntax.specs.declared.expression.Expression.TheVariants as expressions
-use Rattle.kind_bool.specs.Operand.{arguments_of, operand_vars, operands_of, signed}
-use Rattle.kind_bool.specs.declared.operand.Operand.{Operand}
+use Rattle.kind_truths.specs.Operand.{arguments_of, operand_vars, operands_of, signed}
+use Rattle.kind_truths.specs.declared.operand.Operand.{Operand}
 use Rattle.kind_law.proofs.ArgumentLaws.{each-new, each_distinct}
 use Rattle.kind_law.specs.Argument.{ArgHas, distinct, with_new_arg}
 use Rattle.kind_law.specs.Laws.{Each}
 use Rattle.kind_parts.specs.Vars.{variables_of}
-use Rattle.kind_sum.specs.InsertLaws.{join_arg}
+use Rattle.kind_law.proofs.ArgumentLaws.{join_arg}
 use Rattle.kind_sum.specs.Sum.{args_of, terms_of, vars_of}
 
 -- ---- what holds of the arguments holds of the kind's variables

@@ -22,7 +22,7 @@ Likely P = (P → ⊥) → ⊥
 -- ---- right declarations
 
 module _ (ds : List Declaration) (different : AreDifferent (names_of ds)) (fine : IsFine ds) where
-  no_float : (k : ℕ) (d : Declaration) → slice_get ds k ≡ Some d → DeclaresFloatOrSet ds d → ⊥
+  pub no_float : (k : ℕ) (d : Declaration) → slice_get ds k ≡ Some d → DeclaresFloatOrSet ds d → ⊥
   no_float k d at h = fine k (FloatOrSet (identifier_of d).at) (d, at, (h, refl))
 
   pub likely_typed : (k : ℕ) (d : Declaration) → slice_get ds k ≡ Some d → Likely (IsWellTyped ds d)

@@ -1,6 +1,9 @@
 mod Chains
+mod Declared
+mod Drafting
 mod Lists
 mod Scalars
+mod Search
 mod Shapes
 mod Together
 mod Types

@@ -164,7 +164,7 @@ module _ (ds : List Declaration) (different : AreDifferent (names_of ds)) (fine 
             (λ q. none (value_of_literal ds form b q.1 (through name.0 found.0 q.0 name.1 there q.2 q.3)))
       ]
 
-  variable_of_form : (d : Declaration) → sort_of d ≡ sort (base_of form) true false → IsOfForm form d
+  pub variable_of_form : (d : Declaration) → sort_of d ≡ sort (base_of form) true false → IsOfForm form d
   variable_of_form (Parameter p) is = let e : false ≡ true = ap (λ (s : Sort). s.is_variable) is in absurd cc
   variable_of_form (Variable v) is = ap (λ (s : Sort). s.base) is
   variable_of_form (ParameterArray a) is = let e : false ≡ true = ap (λ (s : Sort). s.is_variable) is in absurd cc

@@ -1,7 +1,8 @@
-//! The law is there to be called.
-use crate::posted_has_kind;
+//! The laws are there to be called.
+use crate::{posted_has_kind, unbuilt_is_undrafted};
 
 #[test]
-fn the_law_is_called(_rt: HostRuntime) {
+fn the_laws_are_called(_rt: HostRuntime) {
     posted_has_kind();
+    unbuilt_is_undrafted();
 }
