@@ -1,7 +1,8 @@
 #!/usr/bin/env bash
-# Times the built programs: on the model at the limit, on texts at the limit, which are shown, refused for their
-# many variables, and refused for one byte too many; a sum of 1,000 terms, round after round; and, over sums of 30, 300
-# and 1,000 terms, ends asked one by one and all at once, and views that are kept.
+# Times the built programs: on the model at the limit, on 32,768 tuples over twenty constraints, on chains of defined
+# variables, on texts at the limit, which are shown, refused for their many variables, and refused for one byte too many;
+# a sum of 1,000 terms, round after round; and, over sums of 30, 300 and 1,000 terms, ends asked one by one and all at
+# once, and views that are kept.
 set -eu
 cd "$(dirname "$0")/.."
 program=crates/dombreak/out/dombreak
@@ -16,14 +17,24 @@ timed() {
 }
 
 bench/limit_model.sh >"$scratch/limit.fzn"
+bench/tuples.sh >"$scratch/tuples.fzn"
 bench/long_text.py 4096 >"$scratch/shown.fzn"
 bench/long_text.py 100000 >"$scratch/many.fzn"
 bench/long_text.py 4096 16777217 >"$scratch/long.fzn"
 echo "the model at the limit, solved"
 timed solve "$scratch/limit.fzn"
+echo "32,768 tuples over twenty constraints of fifteen terms, solved"
+timed solve "$scratch/tuples.fzn"
+for count in 25000 50000 100000; do
+  for order in forwards backwards; do
+    bench/chain.py "$count" "$order" >"$scratch/chain.fzn"
+    echo "a chain of $count variables, $order, solved"
+    timed solve "$scratch/chain.fzn"
+  done
+done
 echo "16,777,216 bytes with 4,096 variables, shown"
 timed show "$scratch/shown.fzn"
-echo "16,777,216 bytes with 100,000 variables, which are not built"
+echo "16,777,216 bytes with 100,000 variables, too many of which are free"
 timed show "$scratch/many.fzn"
 echo "16,777,217 bytes, which are too long"
 timed show "$scratch/long.fzn"
